@@ -118,6 +118,7 @@ module _ (job : WriteJob) where
   pub IsCallAlong-next : (stage : CallStage) (past : List Exchange) (ask : DiskAsk) (answer : DiskAnswer) → stage_ask stage ≡ Some ask → IsCallAlong job stage past
       → IsCallAlong job (next_stage stage answer) (past ++ exchanged ask answer ∷ [])
   IsCallAlong-next (calls.Asking want path limit) past ask answer asked h = absurd h
+  IsCallAlong-next (calls.Searching search) past ask answer asked h = absurd h
   IsCallAlong-next (calls.Done reply) past ask answer asked h = absurd (cc asked)
   IsCallAlong-next (calls.Writing now) past ask answer asked h =
       let same : ask_in now ≡ ask = cc asked in

@@ -1,4 +1,4 @@
--- Each answer leaves a call with fewer asks, for callers: a call with n asks left has at most n turns.
+-- Each answer leaves a call that reads no directory with fewer asks, for callers: a call with n asks left has at most n turns.
 use Rattle.std.proofs.Common.{◌≡◌, ◌<◌, ◌≤◌, ◌+◌, ◌-◌, ℕ, Bool, true, false, length, drop, Some, None, refl, sym, ap, ◌∙◌, subst, arith}
 use Rattle.std.specs.Prelude.{nat_le, min, if◌then◌else◌}
 use Rattle.std.proofs.lemmas.Grind.{common_steps}
@@ -6,7 +6,7 @@ use Rattle.std.proofs.lemmas.List.{length-take, length-drop}
 use Rattle.odb_disk.specs.declared.ask.DiskAsk.{DiskAsk}
 use Rattle.odb_disk.specs.declared.ask.DiskAnswer.{DiskAnswer}
 use Rattle.odb_disk.specs.declared.ask.DiskAnswer.TheVariants as answers
-use Rattle.gix_odb_loose.specs.LooseOrder.{fed, disk_ask_of, stage_ask, next_stage, asks_left, written_to}
+use Rattle.gix_odb_loose.specs.LooseOrder.{IsStreamless, fed, disk_ask_of, stage_ask, next_stage, asks_left, written_to}
 use Rattle.gix_odb_loose.specs.WriteOrder.{made_by, headed_by, filled_by, foldered_by, moved_by, next_write, ended_with, written_in, grown}
 use Rattle.gix_odb_loose.specs.WritePieces.{piece_size, room_behind}
 use Rattle.gix_odb_loose.proofs.RoomLemmas.{whole_piece}
@@ -109,11 +109,13 @@ module _ (job : WriteJob) where
   stage_left (stages.Moving number id) given = other_left (stages.Moving number id) given refl
   stage_left (stages.Removing number refusal) given = other_left (stages.Removing number refusal) given refl
 
-pub fewer : (stage : CallStage) (ask : DiskAsk) (given : DiskAnswer) → stage_ask stage ≡ Some ask → asks_left (next_stage stage given) < asks_left stage
-fewer (calls.Asking want path limit) ask given is = omega arith
-fewer (calls.Writing job) ask given is = rw (advance_left job (next_in job given)) (stage_left job job.stage given)
-fewer (calls.Done reply) ask given is = absurd (cc is)
+pub fewer : (stage : CallStage) (ask : DiskAsk) (given : DiskAnswer) → IsStreamless stage → stage_ask stage ≡ Some ask → asks_left (next_stage stage given) < asks_left stage
+fewer (calls.Asking want path limit) ask given streamless is = omega arith
+fewer (calls.Searching search) ask given streamless is = absurd streamless
+fewer (calls.Writing job) ask given streamless is = rw (advance_left job (next_in job given)) (stage_left job job.stage given)
+fewer (calls.Done reply) ask given streamless is = absurd (cc is)
 
--- a call that is fed the answer to its ask has fewer asks left
-pub asks_fewer : (call after : LooseCall) (ask : DiskAsk) (given : DiskAnswer) → Some ask ≡ disk_ask_of call → after ≡ fed call given → asks_left after.stage < asks_left call.stage
-asks_fewer call after ask given asked is = subst (λ c. asks_left c.stage < asks_left call.stage) (sym is) (fewer call.stage ask given (sym asked))
+-- a call that reads no directory has fewer asks left after the answer to its ask
+pub asks_fewer : (call after : LooseCall) (ask : DiskAsk) (given : DiskAnswer) → IsStreamless call.stage → Some ask ≡ disk_ask_of call → after ≡ fed call given
+    → asks_left after.stage < asks_left call.stage
+asks_fewer call after ask given streamless asked is = subst (λ c. asks_left c.stage < asks_left call.stage) (sym is) (fewer call.stage ask given streamless (sym asked))

@@ -43,4 +43,5 @@ module _ (Gave Wider : Reading → Type 0) (wider : (read : Reading) → Gave re
     Cause-wider (jobs.Contains id) path limit error h = TestCause-wider path error h
     Cause-wider (jobs.Find id) path limit error h = FindCause-wider path limit error h
     Cause-wider (jobs.Header id) path limit error h = HeaderCause-wider path error h
+    Cause-wider (jobs.Prefix prefix gather) path limit error h = absurd h
     Cause-wider (jobs.Write kind size bytes id) path limit error h = absurd h

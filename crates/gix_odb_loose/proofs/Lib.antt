@@ -23,3 +23,13 @@ pub mod ReadBackLaws
 pub mod FoundLaws
 mod StreamJobsLemmas
 mod WriteRunsLemmas
+mod NameSetLemmas
+mod PrefixOrderLemmas
+mod PrefixWayLaws
+mod PrefixNamesLemmas
+mod PrefixListLemmas
+pub mod PrefixFolderLaws
+mod PrefixSearchesLemmas
+mod PrefixSetLemmas
+mod PrefixRunsLemmas
+mod PrefixFoundLemmas

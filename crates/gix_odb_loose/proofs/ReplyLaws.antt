@@ -23,13 +23,16 @@ use Rattle.gix_object.specs.declared.kind.Kind.{Kind}
 use Rattle.gix_odb_loose.specs.Store.{store_path, store_hash, store_limit}
 use Rattle.gix_odb_loose.specs.LooseFile.{Answer, Object, HeaderOf, Presence, Gives, Holds, LeadsToFile, id_asked, loose_path}
 use Rattle.gix_odb_loose.specs.Causes.{Cause}
-use Rattle.gix_odb_loose.specs.LooseOrder.{begun, started, fed, disk_ask_of, stage_reply, written_to, reply_of}
+use Rattle.gix_odb_loose.specs.LooseOrder.{begun, started, fed, disk_ask_of, searched_to, stage_reply, written_to, reply_of}
 use Rattle.gix_odb_loose.specs.LooseOrder.Answered.{tested_by, found_by, header_by}
 use Rattle.gix_odb_loose.proofs.LooseOrderLaws.Read.{found_by-AnswersRead, found_by-Err, header_by-AnswersRead, header_by-Err}
 use Rattle.gix_odb_loose.proofs.LooseOrderLaws.Look.{tested_by-Ok, tested_by-Err}
 use Rattle.gix_odb_loose.specs.Replies.{answer_in, error_in, IsMiss, Says}
-use Rattle.gix_odb_loose.specs.WriteOrder.{temp_path}
+use Rattle.gix_odb_loose.specs.PrefixOrder as searches
+use Rattle.gix_odb_loose.specs.WriteOrder.{prefix_path, temp_path}
 use Rattle.gix_odb_loose.specs.WriteJobs.{advance_by}
+use Rattle.gix_odb_loose.specs.declared.prefix_search.SearchStep.{SearchStep}
+use Rattle.gix_odb_loose.specs.declared.prefix_search.SearchStep.TheVariants as search_steps
 use Rattle.gix_odb_loose.specs.declared.write_at_hand.Advance.{Advance}
 use Rattle.gix_odb_loose.specs.declared.write_at_hand.Advance.TheVariants as advances
 use Rattle.gix_odb_loose.specs.declared.write_at_hand.WriteJob.{WriteJob}
@@ -144,6 +147,14 @@ says_advance path limit job tree Failed Wanting write (advances.Reply answer) re
     let same : replies.Wrote answer ≡ reply = cc r in
     subst (Says path limit job tree Failed Wanting) same (record { held = λ given e. absurd (cc e); missed = λ miss. absurd miss; refused = λ error e. absurd (cc e) })
 
+-- nor does that of a look-up of a prefix
+says_searched : (path : Path) (limit : Option ℕ) (job : LooseJob) (tree : Tree) (Failed Wanting : Type 0) (step : SearchStep) (reply : LooseReply) → stage_reply (searched_to step) ≡ Some reply
+    → Says path limit job tree Failed Wanting reply
+says_searched path limit job tree Failed Wanting (search_steps.More search) reply r = absurd (cc r)
+says_searched path limit job tree Failed Wanting (search_steps.Done found) reply r =
+    let same : replies.Prefix found.answer found.names ≡ reply = cc r in
+    subst (Says path limit job tree Failed Wanting) same (record { held = λ given e. absurd (cc e); missed = λ miss. absurd miss; refused = λ error e. absurd (cc e) })
+
 -- the reply says what the tree shows that answered the ask
 pub Says-fed : (store : Store) (job : LooseJob) (tree : Tree) (ask : DiskAsk) (given : DiskAnswer) (reply : LooseReply) → disk_ask_of (started store job) ≡ Some ask
     → AnswersAsk given (answer_of tree ask)
@@ -165,6 +176,8 @@ Says-fed store (jobs.Header id) tree ask given reply is asked Failed Wanting fai
     let same : replies.Header (header_by path given) ≡ reply = cc r in
     subst (Says path (store_limit store) (jobs.Header id) tree Failed Wanting) same
     (Says-header path (store_limit store) id tree given Failed Wanting failed wanting (asks_read path ask tree given is asked))
+Says-fed store (jobs.Prefix prefix gather) tree ask given reply is asked Failed Wanting failed wanting r =
+    says_searched (loose_path (store_path store) prefix.id) (store_limit store) (jobs.Prefix prefix gather) tree Failed Wanting (searches.fed (searches.begun (store_path store) prefix gather) given) reply r
 Says-fed store (jobs.Write kind size bytes id) tree ask given reply is asked Failed Wanting failed wanting r =
     let write = begun store kind size bytes id in
     says_advance (loose_path (store_path store) (id_asked (store_hash store) (jobs.Write kind size bytes id))) (store_limit store) (jobs.Write kind size bytes id) tree Failed Wanting write
@@ -216,6 +229,9 @@ tree_told store (jobs.Find id) tree ask error is e =
 tree_told store (jobs.Header id) tree ask error is e =
     let path = loose_path (store_path store) id in
     let same : ask ≡ asks.Read path = cc is in read_told (read_of tree path) error (ap (answer_of tree) (sym same) ∙ e)
+tree_told store (jobs.Prefix prefix gather) tree ask error is e =
+    let path = prefix_path (store_path store) prefix.id in
+    let same : ask ≡ asks.Look path false = cc is in look_told (looked tree path false) error (ap (answer_of tree) (sym same) ∙ e)
 tree_told store (jobs.Write kind size bytes id) tree ask error is e =
     let path = temp_path (store_path store) 0 in
     let same : ask ≡ asks.NewFile path = cc is in write_told (change_of_new_file tree path) error (ap (answer_of tree) (sym same) ∙ e)
@@ -225,6 +241,7 @@ asks_still : (store : Store) (job : LooseJob) (ask : DiskAsk) → disk_ask_of (s
 asks_still store (jobs.Contains id) ask is = let same : asks.Look (loose_path (store_path store) id) true ≡ ask = cc is in ap is_of_streams (sym same)
 asks_still store (jobs.Find id) ask is = let same : asks.Read (loose_path (store_path store) id) ≡ ask = cc is in ap is_of_streams (sym same)
 asks_still store (jobs.Header id) ask is = let same : asks.Read (loose_path (store_path store) id) ≡ ask = cc is in ap is_of_streams (sym same)
+asks_still store (jobs.Prefix prefix gather) ask is = let same : asks.Look (prefix_path (store_path store) prefix.id) false ≡ ask = cc is in ap is_of_streams (sym same)
 asks_still store (jobs.Write kind size bytes id) ask is = let same : asks.NewFile (temp_path (store_path store) 0) ≡ ask = cc is in ap is_of_streams (sym same)
 
 -- The reply to the present answer of a disk in memory says what its tree shows; an error by a failed call has a listed number,

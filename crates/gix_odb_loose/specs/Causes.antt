@@ -93,11 +93,12 @@ TestCause path Failed Wanting (errors.OutOfMemory size) = ⊥
 TestCause path Failed Wanting (errors.Io action at) = (action ≡ OpenOrMap) × (at ≡ path) × Failed
 TestCause path Failed Wanting errors.NoMemory = Wanting
 
--- The cause of each error of a call.
+-- The cause of each error of a call that finds. A look-up of a prefix and a write have errors of their own.
 abbrev pub Cause : LooseJob → (path : Path) (limit : Option ℕ) (Gave : Reading → Type 0) (Failed Wanting : Type 0) → Error → Type 0
 Cause (jobs.Contains id) path limit Gave Failed Wanting error = TestCause path Failed Wanting error
 Cause (jobs.Find id) path limit Gave Failed Wanting error = FindCause path limit Gave Failed Wanting error
 Cause (jobs.Header id) path limit Gave Failed Wanting error = HeaderCause path Gave Failed Wanting error
+Cause (jobs.Prefix prefix gather) path limit Gave Failed Wanting error = ⊥
 Cause (jobs.Write kind size bytes id) path limit Gave Failed Wanting error = ⊥
 
 -- ---- a write

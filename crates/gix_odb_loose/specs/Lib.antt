@@ -17,3 +17,9 @@ pub mod StreamJobs
 pub mod LooseOrder
 pub mod Replies
 pub mod Asked
+pub mod PrefixNames
+pub mod NameSet
+pub mod PrefixOrder
+pub mod PrefixCauses
+pub mod PrefixSearches
+pub mod PrefixRuns

@@ -11,7 +11,7 @@ use Rattle.gix_object.specs.Limit.{is_within}
 use Rattle.gix_object.specs.Loose.{IsLoose}
 use Rattle.gix_object.specs.declared.kind.Kind.{Kind}
 use Rattle.gix_odb_loose.specs.declared.call.LooseJob.{LooseJob}
-use Rattle.gix_odb_loose.specs.declared.call.LooseJob.TheVariants.{Contains, Find, Header, Write}
+use Rattle.gix_odb_loose.specs.declared.call.LooseJob.TheVariants.{Contains, Find, Header, Prefix, Write}
 
 -- the path of an object's file below an objects directory: the first two hex digits, then the others
 unfoldable pub loose_path : Path → ObjectId → Path
@@ -22,17 +22,20 @@ abbrev pub id_written : HashKind → Kind → List ℕ → Option ObjectId → O
 id_written hash kind bytes (Some id) = id
 id_written hash kind bytes None = object_id hash kind bytes
 
+-- the id that a call is about; of a prefix, the one with zeros after its digits
 abbrev pub id_asked : HashKind → LooseJob → ObjectId
 id_asked hash (Contains id) = id
 id_asked hash (Find id) = id
 id_asked hash (Header id) = id
+id_asked hash (Prefix prefix gather) = prefix.id
 id_asked hash (Write kind size bytes id) = id_written hash kind bytes id
 
--- a call that finds, tests or reads a header, and writes nothing
+-- a call that finds, tests or reads a header: it makes one call of the disk, and writes nothing
 abbrev pub IsFinding : LooseJob → Type 0
 IsFinding (Contains id) = Unit {0}
 IsFinding (Find id) = Unit {0}
 IsFinding (Header id) = Unit {0}
+IsFinding (Prefix prefix gather) = ⊥
 IsFinding (Write kind size bytes id) = ⊥
 
 -- what a read of a path gives: bytes and a time, or why there are none

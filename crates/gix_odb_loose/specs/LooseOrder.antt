@@ -10,6 +10,9 @@ use Rattle.gix_object.specs.declared.kind.Kind.{Kind}
 use Rattle.gix_object.specs.declared.want.Want.{Want}
 use Rattle.gix_object.specs.declared.want.Want.TheVariants.{Object, Header, Presence}
 use Rattle.gix_odb_loose.specs.LooseFile.{loose_path}
+use Rattle.gix_odb_loose.specs.PrefixOrder as searches
+use Rattle.gix_odb_loose.specs.declared.prefix_search.SearchStep.{SearchStep}
+use Rattle.gix_odb_loose.specs.declared.prefix_search.SearchStep.TheVariants as search_steps
 use Rattle.gix_odb_loose.specs.Store.{store_path, store_hash, store_limit}
 use Rattle.gix_odb_loose.specs.declared.store.Store.{Store}
 use Rattle.gix_odb_loose.specs.declared.call.LooseJob.{LooseJob}
@@ -63,11 +66,12 @@ begun store kind size bytes id = write_of (write_head store kind size) (store_ha
 abbrev pub asking_of : Store → Want → ObjectId → Stage
 asking_of store want id = stages.Asking want (loose_path (store_path store) id) (store_limit store)
 
--- a new call has its one path, or what is to be written, and has asked nothing
+-- a new call has its one path, what is to be looked up, or what is to be written, and has asked nothing
 abbrev pub first_stage : Store → LooseJob → Stage
 first_stage store (jobs.Contains id) = asking_of store Presence id
 first_stage store (jobs.Find id) = asking_of store Object id
 first_stage store (jobs.Header id) = asking_of store Header id
+first_stage store (jobs.Prefix prefix gather) = stages.Searching (searches.begun (store_path store) prefix gather)
 first_stage store (jobs.Write kind size bytes id) = stages.Writing (begun store kind size bytes id)
 
 abbrev pub started : Store → LooseJob → LooseCall
@@ -80,6 +84,7 @@ started_for store want id = record { stage = asking_of store want id }
 -- what is asked at a stage
 abbrev pub asked_at : Stage → LooseAsk
 asked_at (stages.Asking want path limit) = loose_asks.Disk (want_ask want path)
+asked_at (stages.Searching search) = loose_asks.Disk (searches.ask_of search)
 asked_at (stages.Writing job) = loose_asks.Disk (ask_in job)
 asked_at (stages.Done reply) = loose_asks.Done reply
 
@@ -114,28 +119,41 @@ reply_of call = stage_reply call.stage
 
 -- ---- after an answer
 
+-- a look-up of a prefix goes on, or has its reply
+abbrev pub searched_to : SearchStep → Stage
+searched_to (search_steps.More search) = stages.Searching search
+searched_to (search_steps.Done found) = stages.Done (replies.Prefix found.answer found.names)
+
 -- a write goes on, or has its reply
 abbrev pub written_to : WriteJob → Advance → Stage
 written_to job (advances.Stage stage) = stages.Writing (record job { stage = stage })
 written_to job (advances.Reply answer) = stages.Done (replies.Wrote answer)
 
--- a finding call is done after its one answer, a write at its end; a call that is done stays unchanged
+-- a finding call is done after its one answer, a look-up of a prefix and a write at their end; a call that is done stays unchanged
 abbrev pub next_stage : Stage → DiskAnswer → Stage
 next_stage (stages.Asking want path limit) answer = stages.Done (want_reply want path limit answer)
+next_stage (stages.Searching search) answer = searched_to (searches.fed search answer)
 next_stage (stages.Writing job) answer = written_to job (advance_by job answer)
 next_stage (stages.Done reply) answer = stages.Done reply
 
 abbrev pub fed : LooseCall → DiskAnswer → LooseCall
 fed call answer = record { stage = next_stage call.stage answer }
 
--- how many calls of the disk are left
+-- a call that reads no directory
+abbrev pub IsStreamless : Stage → Type 0
+IsStreamless (stages.Searching search) = ⊥
+IsStreamless stage = Unit {0}
+
+-- how many calls of the disk are left to a call that reads no directory
 abbrev pub asks_left : Stage → ℕ
 asks_left (stages.Asking want path limit) = 1
+asks_left (stages.Searching search) = 0
 asks_left (stages.Writing job) = writes_left (length job.bytes) (wants.Disk job.stage)
 asks_left (stages.Done reply) = 0
 
 abbrev pub temporary_at : Stage → Option Path
 temporary_at (stages.Asking want path limit) = None
+temporary_at (stages.Searching search) = None
 temporary_at (stages.Writing job) = temporary_of job.head (number_made job.stage)
 temporary_at (stages.Done reply) = None
 

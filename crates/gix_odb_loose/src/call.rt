@@ -3,25 +3,34 @@ ghost use Rattle.std.specs.Prelude.{◌≡◌, true, None, Some, IfOk, MatchResu
 ghost use Rattle.gix_hash.specs.ObjectId.{kind_of};
 ghost use Rattle.gix_odb_loose.specs.Store.{store_hash};
 ghost use Rattle.gix_odb_loose.specs.LooseFile.{id_asked};
-ghost use Rattle.gix_odb_loose.specs.LooseOrder.{asking_of, want_ask, want_reply, started, ask_of, asked_as, asked_at, disk_ask_of, reply_of, temporary_in, next_stage, written_to};
+ghost use Rattle.gix_odb_loose.specs.LooseOrder.{asking_of, want_ask, want_reply, started, ask_of, asked_as, asked_at, disk_ask_of, reply_of, temporary_in, next_stage, searched_to, written_to};
 ghost use Rattle.gix_odb_loose.specs.WriteJobs.{advance_by};
 ghost use Rattle.gix_odb_loose.specs.LooseOrder.{fed as fed_with};
+ghost use Rattle.gix_odb_loose.specs.PrefixOrder.{fed as search_fed_with};
 
+use crate::lookup::Outcome;
+use crate::name_set::IdList;
+use crate::prefix_search::{PrefixSearch, SearchStep};
 use crate::write_at_hand::{Advance, WriteJob};
 use crate::write_order::{WriteHead, WriteStage};
-use crate::{Store, find, reply, write};
-use gix_hash::ObjectId;
+use crate::{Store, find, iter, reply, write};
+use gix_hash::{ObjectId, Prefix};
 use gix_object::{Kind, Want};
 use odb_base::{ByteList, NoMemory, PathText};
 use odb_disk::{DiskAnswer, DiskAsk};
 use std::alloc::Global;
 
-/// What is to be done, and with which object.
+/// What is to be done, and with which objects.
 #[derive(Drop)]
 pub enum LooseJob {
     Contains(ObjectId),
     Find(ObjectId),
     Header(ObjectId),
+    /// A prefix is to be looked up. Two candidates are enough, unless all are gathered.
+    Prefix {
+        prefix: Prefix,
+        gather: bool,
+    },
     /// An object is to be written: `size` bytes of data, under this id if it is known.
     Write {
         kind: Kind,
@@ -40,11 +49,16 @@ pub enum LooseAsk {
 }
 
 /// The result of a call.
-#[derive(Debug, Drop)]
+#[derive(Drop)]
 pub enum LooseReply {
     Contains(Result<bool, find::Error>),
     Found(Result<Option<(Kind, ByteList)>, find::Error>),
     Header(Result<Option<(u64, Kind)>, find::Error>),
+    /// `names` are the candidates that were found, each once.
+    Prefix {
+        answer: Result<Option<Outcome>, iter::Error>,
+        names: IdList,
+    },
     Wrote(Result<ObjectId, write::Error>),
 }
 
@@ -57,6 +71,8 @@ pub enum Stage {
         path: PathText,
         limit: Option<u64>,
     },
+    /// A prefix is being looked up.
+    Searching(PrefixSearch),
     /// An object is being written.
     Writing(WriteJob),
     Done(LooseReply),
@@ -88,6 +104,9 @@ impl LooseCall {
             LooseJob::Contains(id) => asking(alloc, store, Want::Presence, id)?,
             LooseJob::Find(id) => asking(alloc, store, Want::Object, id)?,
             LooseJob::Header(id) => asking(alloc, store, Want::Header, id)?,
+            LooseJob::Prefix { prefix, gather } => {
+                Stage::Searching(PrefixSearch::start(alloc, store, prefix, gather)?)
+            }
             LooseJob::Write {
                 kind,
                 size,
@@ -159,66 +178,6 @@ impl LooseCall {
     }
 }
 
-impl LooseReply {
-    /// A copy of the reply.
-    pub fn try_clone(&self, alloc: Global) -> Result<LooseReply, NoMemory>
-        ensures copy { IfOk result (λ copy. copy ≡ self.now) }
-    {
-        match self {
-            LooseReply::Contains(answer) => presence_copy(alloc, answer),
-            LooseReply::Found(answer) => object_copy(alloc, answer),
-            LooseReply::Header(answer) => header_copy(alloc, answer),
-            LooseReply::Wrote(answer) => id_copy(alloc, answer),
-        }
-    }
-}
-
-fn presence_copy(alloc: Global, answer: &Result<bool, find::Error>) -> Result<LooseReply, NoMemory>
-    ensures copy { IfOk result (λ copy. copy ≡ LooseReply.Contains answer.now) }
-{
-    match answer {
-        Ok(there) => Ok(LooseReply::Contains(Ok(*there))),
-        Err(error) => Ok(LooseReply::Contains(Err(error.try_clone(alloc)?))),
-    }
-}
-
-fn object_copy(
-    alloc: Global,
-    answer: &Result<Option<(Kind, ByteList)>, find::Error>,
-) -> Result<LooseReply, NoMemory>
-    ensures copy { IfOk result (λ copy. copy ≡ LooseReply.Found answer.now) }
-{
-    match answer {
-        Ok(None) => Ok(LooseReply::Found(Ok(None))),
-        Ok(Some((kind, bytes))) => Ok(LooseReply::Found(Ok(Some((
-            *kind,
-            bytes.try_clone(alloc)?,
-        ))))),
-        Err(error) => Ok(LooseReply::Found(Err(error.try_clone(alloc)?))),
-    }
-}
-
-fn header_copy(
-    alloc: Global,
-    answer: &Result<Option<(u64, Kind)>, find::Error>,
-) -> Result<LooseReply, NoMemory>
-    ensures copy { IfOk result (λ copy. copy ≡ LooseReply.Header answer.now) }
-{
-    match answer {
-        Ok(found) => Ok(LooseReply::Header(Ok(*found))),
-        Err(error) => Ok(LooseReply::Header(Err(error.try_clone(alloc)?))),
-    }
-}
-
-fn id_copy(alloc: Global, answer: &Result<ObjectId, write::Error>) -> Result<LooseReply, NoMemory>
-    ensures copy { IfOk result (λ copy. copy ≡ LooseReply.Wrote answer.now) }
-{
-    match answer {
-        Ok(id) => Ok(LooseReply::Wrote(Ok(*id))),
-        Err(error) => Ok(LooseReply::Wrote(Err(error.try_clone(alloc)?))),
-    }
-}
-
 impl Stage {
     // What a call at this stage does next.
     fn next(&self, alloc: Global) -> Result<Next<'_>, NoMemory>
@@ -226,6 +185,7 @@ impl Stage {
     {
         match self {
             Stage::Asking { want, path, .. } => Ok(Next::Disk(ask_for(alloc, *want, path)?)),
+            Stage::Searching(search) => Ok(Next::Disk(search.ask(alloc)?)),
             Stage::Writing(job) => {
                 let piece = ByteList::from_slice(alloc, job.piece())?;
                 Ok(Next::Disk(job.head.ask_at(alloc, &job.stage, piece)?))
@@ -240,6 +200,7 @@ impl Stage {
     {
         match self {
             Stage::Asking { want, path, limit } => asking_fed(alloc, want, &path, limit, answer),
+            Stage::Searching(search) => search_fed(alloc, search, answer),
             Stage::Writing(job) => write_fed(alloc, job, answer),
             Stage::Done(reply) => Ok(Stage::Done(reply)),
         }
@@ -309,6 +270,18 @@ fn header_fed(alloc: Global, path: &PathText, answer: DiskAnswer) -> Result<Stag
     let header = reply::headed(alloc, path, &answer)?;
     drop(answer);
     Ok(Stage::Done(LooseReply::Header(header)))
+}
+
+fn search_fed(alloc: Global, search: PrefixSearch, answer: DiskAnswer) -> Result<Stage, NoMemory>
+    ensures next { IfOk result (λ next. next ≡ searched_to (search_fed_with search answer)) }
+{
+    match search.feed(alloc, answer)? {
+        SearchStep::More(search) => Ok(Stage::Searching(search)),
+        SearchStep::Done(found) => Ok(Stage::Done(LooseReply::Prefix {
+            answer: found.answer,
+            names: found.names,
+        })),
+    }
 }
 
 fn write_fed(alloc: Global, job: WriteJob, answer: DiskAnswer) -> Result<Stage, NoMemory>

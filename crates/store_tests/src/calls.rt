@@ -3,7 +3,8 @@ ghost use Rattle.std.specs.Prelude.{◌≡◌, IfOk};
 ghost use Rattle.gix_hash.specs.ObjectId.{kind_of};
 ghost use Rattle.gix_odb_loose.specs.Store.{store_hash};
 
-use crate::machine::machine_reply;
+use crate::machine::{lookup_reply, machine_reply};
+use crate::prefix_calls;
 use crate::words::{
     HELLO, data_of, found_shown, header_shown, id_of, object_shown, presence_shown, wrote_shown,
 };
@@ -176,6 +177,12 @@ pub fn called<D: Disk>(
         "object" => object(alloc, store, disk, rest),
         "as" => write_as(alloc, store, disk, rest),
         "machine" => machine_reply(alloc, store, disk, rest),
+        "prefix" => prefix_calls::prefix(alloc, store, disk, rest),
+        "gather" => prefix_calls::gather(alloc, store, disk, rest),
+        "lookup" => lookup_reply(alloc, store, disk, rest),
+        "search" => prefix_calls::search(alloc, store, disk, rest),
+        "streams" => prefix_calls::streams(alloc, disk),
+        "twice" => prefix_calls::twice(alloc, store, rest),
         _ => write(alloc, store, disk, rest),
     }
 }

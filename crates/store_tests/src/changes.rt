@@ -33,7 +33,7 @@ fn answers_of(
 fn told(alloc: Global, store: &Store, disk: &mut MemDisk, text: &str) -> Result<String, Fail> {
     let (verb, rest) = cut(text);
     match verb {
-        "make" | "take" | "put" => changed(alloc, disk, verb, rest),
+        "make" | "take" | "put" | "link" => changed(alloc, disk, verb, rest),
         "file" => answers_of(alloc, store, disk, rest),
         "calls" => Ok(disk.calls().to_string(alloc)?),
         _ => called(alloc, store, disk, text),

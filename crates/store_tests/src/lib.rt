@@ -20,6 +20,10 @@ mod machine_by_hand;
 #[cfg(test)]
 mod paths_of_objects;
 #[cfg(test)]
+mod prefix_calls;
+#[cfg(test)]
+mod prefixes;
+#[cfg(test)]
 mod real_disk;
 #[cfg(test)]
 mod same_calls_from_a_source;

@@ -1,10 +1,12 @@
 //! Calls of a store as machines.
+use crate::prefix_calls::{outcome_shown, prefix_of};
 use crate::words::{
     HELLO, data_of, find_word, header_shown, id_of, object_shown, presence_shown, word_of,
     wrote_shown,
 };
 use gix_object::Kind;
-use gix_odb_loose::{LooseCall, LooseJob, LooseReply, Store};
+use gix_odb_loose::lookup::Outcome;
+use gix_odb_loose::{IdList, LooseCall, LooseJob, LooseReply, Store, iter};
 use odb_base::{ByteList, NoMemory};
 use odb_mem_disk::Disk;
 use std::alloc::Global;
@@ -18,8 +20,20 @@ pub fn reply_shown(alloc: Global, reply: &LooseReply) -> Result<String, Fail> {
         LooseReply::Found(Ok(None)) => word_of(alloc, "none"),
         LooseReply::Found(Err(error)) => word_of(alloc, find_word(error)),
         LooseReply::Header(answer) => header_shown(alloc, answer),
+        LooseReply::Prefix { answer, names } => candidates_shown(alloc, answer, names),
         LooseReply::Wrote(answer) => wrote_shown(alloc, answer),
     }
+}
+
+/// The result of a look-up of a prefix, and how many names were found.
+fn candidates_shown(
+    alloc: Global,
+    answer: &Result<Option<Outcome>, iter::Error>,
+    names: &IdList,
+) -> Result<String, Fail> {
+    let text = outcome_shown(alloc, answer)?;
+    let count = names.len();
+    Ok(format!(in alloc; "{text}, {count}")?)
 }
 
 /// A write of a blob with these data and the stated `size`, under the id of the blob `hello`.
@@ -66,6 +80,22 @@ pub fn machine_reply<D: Disk>(
 ) -> Result<String, Fail> {
     let (size, data) = cut(rest);
     let call = write_started(alloc, store, size.parse::<u64>()?, data)?;
+    done_shown(alloc, run(alloc, disk, call)?)
+}
+
+/// `lookup DIGITS`: the reply of a look-up of a prefix whose candidates are gathered, or `asks` if it isn't done.
+pub fn lookup_reply<D: Disk>(
+    alloc: Global,
+    store: &Store,
+    disk: &mut D,
+    digits: &str,
+) -> Result<String, Fail> {
+    let prefix = prefix_of(store, digits)?;
+    let job = LooseJob::Prefix {
+        prefix,
+        gather: true,
+    };
+    let call = LooseCall::start(alloc, store, job)?;
     done_shown(alloc, run(alloc, disk, call)?)
 }
 

@@ -1,5 +1,5 @@
 //! The errors of a walk: what went wrong at one place, and the text that says so.
-ghost use Rattle.std.specs.Prelude.{◌≡◌, ℕ, Option};
+ghost use Rattle.std.specs.Prelude.{◌≡◌, ℕ, Option, IfOk};
 ghost use Rattle.std.specs.Option.{option_copied};
 ghost use Rattle.walkdir.specs.Error.{refusal_name};
 
@@ -82,8 +82,8 @@ impl Error {
         self.io_error()
     }
 
-    /// A call on a path was refused.
-    pub(crate) fn from_path(alloc: Global, depth: usize, path: &PathText, error: DiskError) -> Error
+    /// The error that a call on a path was refused with. Out of memory, if there is none for the path.
+    pub fn from_path(alloc: Global, depth: usize, path: &PathText, error: DiskError) -> Error
         ensures made { IsFromPath depth path.now error result }
     {
         if error == DiskError::NoMemory {
@@ -142,11 +142,46 @@ impl Error {
         }
     }
 
+    /// A copy of the error.
+    pub fn try_clone(&self, alloc: Global) -> Result<Error, NoMemory>
+        ensures copy { IfOk result (λ copy. copy ≡ self.now) }
+    {
+        Ok(Error {
+            depth: self.depth,
+            inner: self.inner.try_clone(alloc)?,
+        })
+    }
+
     /// Whether memory ran out.
     pub fn is_out_of_memory(&self) -> bool
         ensures told { result ≡ is_no_memory self.now }
     {
         matches!(&self.inner, ErrorInner::NoMemory)
+    }
+}
+
+impl ErrorInner {
+    fn try_clone(&self, alloc: Global) -> Result<ErrorInner, NoMemory>
+        ensures copy { IfOk result (λ copy. copy ≡ self.now) }
+    {
+        match self {
+            ErrorInner::Io { path: None, error } => Ok(ErrorInner::Io {
+                path: None,
+                error: *error,
+            }),
+            ErrorInner::Io {
+                path: Some(path),
+                error,
+            } => Ok(ErrorInner::Io {
+                path: Some(path.try_clone(alloc)?),
+                error: *error,
+            }),
+            ErrorInner::Loop { ancestor, child } => Ok(ErrorInner::Loop {
+                ancestor: ancestor.try_clone(alloc)?,
+                child: child.try_clone(alloc)?,
+            }),
+            ErrorInner::NoMemory => Ok(ErrorInner::NoMemory),
+        }
     }
 }
 
