@@ -1,6 +1,6 @@
 -- Laws of what calls ask: a call that was started asks for something or has its reply, and says that it is done exactly where it has one.
 -- No call has a core made.
-use Rattle.std.proofs.Common.{◌≡◌, ◌↔◌, ℕ, true, List, [], ◌∷◌, Option, Some, None, Result, Ok, Err, refl, sym, ap, ◌∙◌, subst}
+use Rattle.std.proofs.Common.{◌≡◌, ◌↔◌, ℕ, true, List, [], ◌∷◌, Option, Some, None, Result, Ok, Err, refl, sym, ap, ◌∙◌}
 use Rattle.std.specs.Result.{result_ok}
 use Rattle.gix_hash.specs.declared.kind.Kind.{Kind as HashKind}
 use Rattle.gix_hash.specs.declared.object_id.ObjectId.{ObjectId}
@@ -13,8 +13,6 @@ use Rattle.gix_odb_loose.specs.declared.call.Stage.TheVariants as loose_stages
 use Rattle.gix_odb_calls.specs.declared.call.Call.{Call}
 use Rattle.gix_odb_calls.specs.declared.call.Reply.{Reply}
 use Rattle.gix_odb_calls.specs.declared.query.Query.{Query}
-use Rattle.gix_odb_events.specs.declared.answer.Answer.{Answer}
-use Rattle.gix_odb_events.specs.declared.answer.Ask.{Ask}
 use Rattle.gix_odb_events.specs.declared.answer.Ask.TheVariants as asks
 use Rattle.gix_odb_events.specs.declared.view.View.{View}
 use Rattle.gix_odb.proofs.HandedLaws.{look_ups_have_no_core_made}
@@ -45,6 +43,7 @@ look_asks_none head (look_stages.Done other) reply is = refl
 write_asks_none : (call : LooseCall) (stage : loose.Stage) (reply : Reply) → writing_result (replied_by call (written_at stage)) ≡ Ok reply
     → loose_ask (stage_ask stage) ≡ None
 write_asks_none call (loose_stages.Asking want path limit) reply is = absurd (cc is)
+write_asks_none call (loose_stages.Searching search) reply is = absurd (cc is)
 write_asks_none call (loose_stages.Writing job) reply is = absurd (cc is)
 write_asks_none call (loose_stages.Done other) reply is = refl
 
@@ -100,11 +99,13 @@ look_has_reply head (look_stages.Done reply) is = (reply, refl)
 write_has_reply : (call : LooseCall) (stage : loose.Stage) → is_write_at stage ≡ true → loose_ask (stage_ask stage) ≡ None
     → (reply : Reply) × (writing_result (replied_by call (written_at stage)) ≡ Ok reply)
 write_has_reply call (loose_stages.Asking want path limit) writes is = absurd (cc writes)
+write_has_reply call (loose_stages.Searching search) writes is = absurd (cc writes)
 write_has_reply call (loose_stages.Writing job) writes is = absurd (cc is)
 write_has_reply call (loose_stages.Done (loose_replies.Wrote answer)) writes is = (wrote_as answer, refl)
 write_has_reply call (loose_stages.Done (loose_replies.Contains answer)) writes is = absurd (cc writes)
 write_has_reply call (loose_stages.Done (loose_replies.Found answer)) writes is = absurd (cc writes)
 write_has_reply call (loose_stages.Done (loose_replies.Header answer)) writes is = absurd (cc writes)
+write_has_reply call (loose_stages.Done (loose_replies.Prefix answer names)) writes is = absurd (cc writes)
 
 has_reply : (state : CallStage) → is_for_writes state ≡ true → HasReply state
 has_reply (Looking look) writes is = look_has_reply look.head look.stage is

@@ -1,11 +1,10 @@
 -- What a call writes with stays a call that writes, and replies what it wrote.
-use Rattle.std.proofs.Common.{◌≡◌, ℕ, Bool, true, false, List, Option, Some, None, Result, Ok, Err, refl, sym, ap, ◌∙◌, subst}
+use Rattle.std.proofs.Common.{◌≡◌, true, Some, None, Result, Ok, Err, refl, sym, ap, ◌∙◌}
 use Rattle.std.specs.Result.{result_ok}
 use Rattle.odb_disk.specs.declared.ask.DiskAnswer.{DiskAnswer}
 use Rattle.odb_disk.specs.declared.ask.DiskAsk.{DiskAsk}
 use Rattle.gix_hash.specs.declared.kind.Kind.{Kind as HashKind}
 use Rattle.gix_hash.specs.declared.object_id.ObjectId.{ObjectId}
-use Rattle.gix_object.specs.declared.kind.Kind.{Kind}
 use Rattle.gix_odb_loose.specs.LooseOrder.{next_stage, reply_in, reply_of, stage_reply, written_to}
 use Rattle.gix_odb_loose.specs.LooseOrder as loose_order
 use Rattle.gix_odb_loose.specs.WriteJobs.{advance_by}
@@ -33,6 +32,7 @@ use Rattle.gix_odb.specs.declared.refresh.RefreshStep.TheVariants as fronts
 use Rattle.gix_odb.specs.CallOrder.{fed, fronted, is_for_writes, is_write, is_write_at, is_written, looking, replied_by, result_of_write, started, writing, written_at, written_on, wrote_as}
 use Rattle.gix_odb.specs.declared.call_state.CallStage.{CallStage}
 use Rattle.gix_odb.specs.declared.call_state.CallStage.TheVariants.{Looking, Refreshing, Refused, Writing}
+use Rattle.gix_odb.specs.Store.{listed_for}
 
 -- ---- it stays a call that writes
 
@@ -42,6 +42,7 @@ advanced-writes job (advances.Reply answer) = refl
 
 stage-writes : (stage : loose.Stage) (answer : DiskAnswer) → is_write_at stage ≡ true → is_write_at (next_stage stage answer) ≡ true
 stage-writes (loose_stages.Asking want path limit) answer writes = absurd (cc writes)
+stage-writes (loose_stages.Searching search) answer writes = absurd (cc writes)
 stage-writes (loose_stages.Writing job) answer writes = advanced-writes job (advance_by job answer)
 stage-writes (loose_stages.Done reply) answer writes = writes
 
@@ -58,7 +59,7 @@ fronted-writes (fronts.Refused error) write writes = refl
 
 pub fed-writes : (setting : Setting) (state : CallStage) (answer : Answer) → is_for_writes state ≡ true → is_for_writes (fed setting state answer) ≡ true
 fed-writes setting (Looking look) answer writes = refl
-fed-writes setting (Refreshing refresh write) answer writes = fronted-writes (refreshes.fed setting.parts.objects setting.parts.folders refresh answer) write writes
+fed-writes setting (Refreshing refresh write) answer writes = fronted-writes (refreshes.fed setting.parts.objects (listed_for setting.parts) refresh answer) write writes
 fed-writes setting (Writing call) answer writes = written_on-writes call answer writes
 fed-writes setting (Refused error) answer writes = refl
 
@@ -86,6 +87,7 @@ started_writes_by setting hash view sought call stage is = ap is_for_writes is �
 
 replies_at : (stage : loose.Stage) (reply : LooseReply) → is_write_at stage ≡ true → stage_reply stage ≡ Some reply → is_written reply ≡ true
 replies_at (loose_stages.Asking want path limit) reply writes is = absurd (cc is)
+replies_at (loose_stages.Searching search) reply writes is = absurd (cc is)
 replies_at (loose_stages.Writing job) reply writes is = absurd (cc is)
 replies_at (loose_stages.Done own) reply writes is = let same : own ≡ reply = cc is in ap is_written (sym same) ∙ writes
 
@@ -95,11 +97,13 @@ write_replies call reply writes is = replies_at call.stage reply writes is
 result_at : (call : LooseCall) (stage : loose.Stage) (answer : Result ObjectId loose_write.Error) → stage_reply stage ≡ Some (loose_replies.Wrote answer)
     → replied_by call (written_at stage) ≡ Ok (wrote_as answer)
 result_at call (loose_stages.Asking want path limit) answer is = absurd (cc is)
+result_at call (loose_stages.Searching search) answer is = absurd (cc is)
 result_at call (loose_stages.Writing job) answer is = absurd (cc is)
 result_at call (loose_stages.Done (loose_replies.Wrote own)) answer is = let same : own ≡ answer = cc is in ap (λ a. Ok (wrote_as a)) same
 result_at call (loose_stages.Done (loose_replies.Contains own)) answer is = absurd (cc is)
 result_at call (loose_stages.Done (loose_replies.Found own)) answer is = absurd (cc is)
 result_at call (loose_stages.Done (loose_replies.Header own)) answer is = absurd (cc is)
+result_at call (loose_stages.Done (loose_replies.Prefix own names)) answer is = absurd (cc is)
 
 pub write_result : (call : LooseCall) (reply : LooseReply) (answer : Result ObjectId loose_write.Error) → reply_of call ≡ Some reply → reply ≡ loose_replies.Wrote answer
     → result_of_write call ≡ Ok (wrote_as answer)
@@ -107,6 +111,7 @@ write_result call reply answer is wrote = result_at call call.stage answer (is �
 
 goes_on_at : (call : LooseCall) (stage : loose.Stage) → stage_reply stage ≡ None → replied_by call (written_at stage) ≡ Err call
 goes_on_at call (loose_stages.Asking want path limit) is = refl
+goes_on_at call (loose_stages.Searching search) is = refl
 goes_on_at call (loose_stages.Writing job) is = refl
 goes_on_at call (loose_stages.Done reply) is = absurd (cc is)
 

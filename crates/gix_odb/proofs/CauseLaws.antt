@@ -138,7 +138,7 @@ shown_begins (Some begun) view shown is = (begun, refl)
 shown_begins None (Some view) shown is = (view.list_no, refl)
 shown_begins None None shown is = absurd (cc is)
 
-module _ (Shown : Path → List ℕ → Type 0) (setting : Setting) (hash : Kind) (want : Want) (id : ObjectId) where
+module _ (Shown : Path → ℕ → List ℕ → Type 0) (setting : Setting) (hash : Kind) (want : Want) (id : ObjectId) where
   record IsKnown (past : List Exchange) (look : LookUp) : Type 0 where
     stands : StandsFor setting want id look
     counts : Counts past look.head
@@ -171,6 +171,7 @@ module _ (Shown : Path → List ℕ → Type 0) (setting : Setting) (hash : Kind
     breaks-more (list_stages.Closing dir entries) breaks = tt
     breaks-more (list_stages.Index path left) breaks = tt
     breaks-more (list_stages.Pack row left) breaks = tt
+    breaks-more (list_stages.Multi left) breaks = tt
 
     knows-more : (stage : LookStage) (ask : Ask) → ask_at stage ≡ Some ask → KnowsAt Shown setting hash id past head stage
         → KnowsAt Shown setting hash id more head_seen stage

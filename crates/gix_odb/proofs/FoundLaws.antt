@@ -41,13 +41,14 @@ use Rattle.gix_odb.specs.declared.look_up.LookStage.{LookStage}
 use Rattle.gix_odb.specs.declared.look_up.LookUp.{LookUp}
 use Rattle.gix_odb.proofs.FoundLaws.Behind.{done_known, look_known, stage_hands}
 
-module _ (Shown : Path → List ℕ → Type 0) (setting : Setting) (hash : Kind) (want : Want) (id : ObjectId) (same : kind_of id ≡ hash)
+module _ (Shown : Path → ℕ → List ℕ → Type 0) (setting : Setting) (hash : Kind) (want : Want) (id : ObjectId) (same : kind_of id ≡ hash)
     (view : View) (shown : IsShownView Shown setting hash view) (exchanges : List Exchange)
     (asked : AreAsked setting (started setting view want id) exchanges) (truth : AreTrue Shown setting hash exchanges) where
   abbrev look : LookUp
   look = behind setting (started setting view want id) exchanges
 
-  -- a file that a look-up passes to the core was shown at its path, and a listing that it publishes has only rows of indices of the folders
+  -- A file that a look-up passes to the core was shown at its path. A listing that it publishes has only rows of indices of the folders, and of
+  -- multi-pack indices that were shown there.
   pub what_is_handed_was_shown : (ask : Ask) → ask_of look ≡ Some ask → IsHandedBy Shown setting hash ask
   what_is_handed_was_shown ask is =
       stage_hands Shown setting hash want id exchanges look.stage ask (look_known Shown setting hash want id same view shown exchanges asked truth).stage is

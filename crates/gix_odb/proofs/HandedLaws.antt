@@ -47,6 +47,7 @@ use Rattle.gix_odb.proofs.ListerLaws.Reads.{none_told, told_from}
 use Rattle.gix_odb.proofs.RefreshLaws.{AsksOfLooks, refresh_asks_of_looks}
 pub use Rattle.gix_odb.proofs.RefreshLaws.{IsOfLooks}
 pub use Rattle.gix_odb.proofs.ListerLaws.Streams.{IsOwnStream, Opened, left_open, left_open-push, open_by, opened_by, opened_last, opened_last-push}
+use Rattle.gix_odb.specs.Store.{listed_for}
 
 -- ---- which events
 
@@ -83,35 +84,36 @@ module _ (setting : Setting) (distinct : IsDistinct same_path (folders_of settin
   RowsDiffer rows = HasDifferentPaths rows
 
   abbrev StageDiffers : LookStage → Type 0
-  StageDiffers stage = Stands setting AnyCall (ListerDiffers setting.parts.folders) RowsDiffer (Unit {0}) stage
+  StageDiffers stage = Stands setting AnyCall (ListerDiffers (listed_for setting.parts)) RowsDiffer (Unit {0}) stage
 
-  step_differs : (step : ListStep) → StepDiffers setting.parts.folders step → Steps setting AnyCall (ListerDiffers setting.parts.folders) RowsDiffer (Unit {0}) step
+  step_differs : (step : ListStep) → StepDiffers (listed_for setting.parts) step → Steps setting AnyCall (ListerDiffers (listed_for setting.parts)) RowsDiffer (Unit {0}) step
   step_differs (listed.More lister) here = here
   step_differs (listed.Listed listing) here = (tt, here)
   step_differs listed.Broken here = tt
+  step_differs (listed.TooManyPacks actual path) here = tt
 
   goes_differing : (stage : LookStage) (answer : Answer) → StageDiffers stage
-      → Goes setting AnyCall (ListerDiffers setting.parts.folders) RowsDiffer (Unit {0}) stage answer
+      → Goes setting AnyCall (ListerDiffers (listed_for setting.parts)) RowsDiffer (Unit {0}) stage answer
   goes_differing (stages.Trying trier part) answer here = tt
   goes_differing (stages.Loose round call) (told.Disk answer) here = tt
   goes_differing (stages.Loose round call) (told.Core answer) here = here
   goes_differing (stages.Refreshing fronts.Reading purpose notes) answer here = tt
   goes_differing (stages.Checking list_no notes) answer here = tt
   goes_differing (stages.Refreshing (fronts.Listing lister) purpose notes) (told.Disk answer) here =
-      step_differs (lists.fed setting.parts.folders lister answer)
-      (listing_differs setting.parts.folders setting.parts.objects distinct lister.head lister.stage here answer)
+      step_differs (lists.fed (listed_for setting.parts) lister answer)
+      (listing_differs (listed_for setting.parts) setting.parts.objects distinct lister.head lister.stage here answer)
   goes_differing (stages.Refreshing (fronts.Listing lister) purpose notes) (told.Core answer) here = here
   goes_differing (stages.Refreshing (fronts.Publishing listing) purpose notes) answer here = here
   goes_differing (stages.Done reply) answer here = tt
 
-  starts_listing : (base : ℕ) → Unit {0} → ListerDiffers setting.parts.folders (lists.started setting.parts.objects base)
-  starts_listing base here = starts_apart setting.parts.folders setting.parts.objects distinct base
+  starts_listing : (base : ℕ) → Unit {0} → ListerDiffers (listed_for setting.parts) (lists.started setting.parts.objects base)
+  starts_listing base here = starts_apart (listed_for setting.parts) setting.parts.objects distinct base
 
   differs_behind : (look : LookUp) → StageDiffers look.stage → (exchanges : List Exchange) → StageDiffers (behind setting look exchanges).stage
   differs_behind look here [] = here
   differs_behind look here (exchange ∷ exchanges) =
       differs_behind (fed setting look exchange.answer)
-      (stage_stands setting AnyCall (ListerDiffers setting.parts.folders) RowsDiffer (Unit {0}) (λ want id folder. tt) starts_listing
+      (stage_stands setting AnyCall (ListerDiffers (listed_for setting.parts)) RowsDiffer (Unit {0}) (λ want id folder. tt) starts_listing
       (seen look.head exchange.answer) look.stage exchange.answer (goes_differing look.stage exchange.answer here))
       exchanges
 
@@ -122,13 +124,13 @@ module _ (setting : Setting) (distinct : IsDistinct same_path (folders_of settin
     differs : StageDiffers listing_look.stage
     differs =
         differs_behind (started setting view want id)
-        (start_stands setting AnyCall (ListerDiffers setting.parts.folders) RowsDiffer (Unit {0}) (λ want id folder. tt) starts_listing view want id tt)
+        (start_stands setting AnyCall (ListerDiffers (listed_for setting.parts)) RowsDiffer (Unit {0}) (λ want id folder. tt) starts_listing view want id tt)
         exchanges
 
     pub rows_of_a_listing_have_different_paths : (listing : Handed) → ask_of listing_look ≡ Some (asks.Core (events.Publish listing))
         → HasDifferentPaths listing.rows
     rows_of_a_listing_have_different_paths listing is =
-        published setting AnyCall (ListerDiffers setting.parts.folders) RowsDiffer (Unit {0}) listing_look.stage differs listing is
+        published setting AnyCall (ListerDiffers (listed_for setting.parts)) RowsDiffer (Unit {0}) listing_look.stage differs listing is
 
 -- ---- they change no file, and their streams are their own
 

@@ -22,14 +22,14 @@ use Rattle.gix_odb.specs.True.{AreTrue}
 use Rattle.gix_odb.proofs.FoundLaws.{what_is_found_was_shown}
 use Rattle.gix_odb.specs.Hashed.{LooseHash, PacksHash}
 
-module _ (Shown : Path → List ℕ → Type 0) (setting : Setting) (hash : Kind) (id : ObjectId) (same : kind_of id ≡ hash)
+module _ (Shown : Path → ℕ → List ℕ → Type 0) (setting : Setting) (hash : Kind) (id : ObjectId) (same : kind_of id ≡ hash)
     (exchanges : List Exchange) (kind : object.Kind) (bytes : List ℕ) where
   in_packs : PacksHash setting hash id Shown → IsFound Shown setting hash id Object (replies.Found kind bytes) → object_id hash kind bytes ≡ id
   in_packs packs found =
       let kinds : kind ≡ found.content.entry.kind = cc found.content.is in
       let octets : bytes ≡ found.content.entry.bytes = cc found.content.is in
       ap (λ (k : object.Kind). object_id hash k bytes) kinds ∙ ap (object_id hash found.content.entry.kind) octets
-      ∙ packs found.path found.index.bytes found.pack found.offset found.content.entry found.index.at found.index.shown found.index.gives found.shown found.content.there
+      ∙ packs found.path found.pack found.offset found.content.entry found.index found.shown found.content.there
 
   given_object : (given : Result (Option (object.Kind × List ℕ)) Error) → verdict_on_find given ≡ verdicts.Ends (replies.Found kind bytes)
       → given ≡ Ok (Some (kind, bytes))

@@ -45,7 +45,7 @@ module _ (setting : Setting) where
       let more = asked-within (fed setting look first.answer) past exchange rest asked.1 in
       ((asked.0, more.0), more.1)
 
-module _ (Shown : Path → List ℕ → Type 0) (setting : Setting) (hash : Kind) (past : List Exchange) (last : Exchange)
+module _ (Shown : Path → ℕ → List ℕ → Type 0) (setting : Setting) (hash : Kind) (past : List Exchange) (last : Exchange)
     (truth : AreTrue Shown setting hash (past ++ last ∷ [])) where
   pub true_before : AreTrue Shown setting hash past
   true_before exchange among = truth exchange (Contains-append_left past (last ∷ []) exchange among)

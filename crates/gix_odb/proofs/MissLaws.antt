@@ -3,6 +3,7 @@ pub mod Lists
 pub mod Replies
 mod Trying
 mod Rows
+mod Carried
 mod Listing
 pub mod Track
 pub mod Folders
@@ -20,9 +21,10 @@ use Rattle.gix_object.specs.declared.want.Want.{Want}
 use Rattle.gix_odb_calls.specs.declared.verdict.Verdict.{Verdict}
 use Rattle.gix_odb_calls.specs.declared.verdict.Verdict.TheVariants as verdicts
 use Rattle.gix_odb.specs.LookExchanges.{AreAsked, Exchange, HasFailed, HasVerdict, behind}
-use Rattle.gix_odb.specs.Fair.{AreFair, PackedPlace}
+use Rattle.gix_odb.specs.Fair.{AreFair, IsCarried, PackedPlace}
 use Rattle.gix_odb.specs.LookUpOrder.{Setting, ask_of, fed, not_found, result_of, started}
 use Rattle.gix_odb.specs.Shown.{folders_of}
+use Rattle.gix_odb.specs.Store.{listed_for}
 use Rattle.gix_odb.specs.True.{AreTrue, IsTrue}
 use Rattle.gix_odb.specs.declared.look_up.LookStage.{LookStage}
 use Rattle.gix_odb.specs.declared.look_up.LookStage.TheVariants as stages
@@ -36,12 +38,12 @@ use Rattle.gix_odb.proofs.MissLaws.Track.{never_missed, starts}
 
 -- an object that stays unchanged in a pack while a look-up works, with fair answers, is not said to be missing
 pub nothing_still_in_packs_is_missed : (setting : Setting) (hash : Kind) (view : View) (want : Want) (id : ObjectId) (exchanges : List Exchange)
-    → kind_of id ≡ hash → (place : PackedPlace) → Contains (folders_of setting) place.folder
-    → AreAsked setting (started setting view want id) exchanges → AreFair hash id place [] exchanges
+    → kind_of id ≡ hash → (place : PackedPlace) → IsCarried (listed_for setting.parts).multi place → Contains (folders_of setting) place.folder
+    → AreAsked setting (started setting view want id) exchanges → AreFair (listed_for setting.parts).multi hash id place [] exchanges
     → ¬ (result_of (behind setting (started setting view want id) exchanges) ≡ Ok (not_found want))
-nothing_still_in_packs_is_missed setting hash view want id exchanges of_hash place among asked fair =
-    never_missed setting hash want id of_hash place among [] (started setting view want id)
-    (starts setting hash want id of_hash place among view) exchanges asked fair
+nothing_still_in_packs_is_missed setting hash view want id exchanges of_hash place carried among asked fair =
+    never_missed setting hash want id of_hash place carried among [] (started setting view want id)
+    (starts setting hash want id of_hash place carried among view) exchanges asked fair
 
 module _ (setting : Setting) (want : Want) (id : ObjectId) where
   -- ---- each folder was asked
@@ -82,7 +84,7 @@ module _ (setting : Setting) (want : Want) (id : ObjectId) where
   marred_behind look marred (exchange ∷ exchanges) =
       marred_behind (fed setting look exchange.answer) (stays_marred setting want look marred exchange.answer) exchanges
 
-  module _ (Shown : Path → List ℕ → Type 0) (hash : Kind) where
+  module _ (Shown : Path → ℕ → List ℕ → Type 0) (hash : Kind) where
     can_fail : (ask : Ask) → IsTrue Shown setting hash ask failed → CanFail ask
     can_fail (asks.Disk ask) truth = truth.0
     can_fail (asks.Core event) truth = truth

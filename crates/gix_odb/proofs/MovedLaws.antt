@@ -1,6 +1,6 @@
 -- Laws of look-ups for an object that moves from a loose file into a pack: it isn't missed, since the loose folders are asked before the first
 -- listing.
-use Rattle.std.proofs.Common.{◌≡◌, ◌⊎◌, inl, inr, ◌+◌, Bool, true, false, cond, List, [], ◌∷◌, ◌++◌, slice_get, drop, Contains, Option, Some, None, Ok, Err}
+use Rattle.std.proofs.Common.{◌≡◌, ◌⊎◌, inl, inr, Bool, true, false, cond, List, [], ◌∷◌, ◌++◌, slice_get, drop, Contains, Option, Some, None, Ok, Err}
 use Rattle.std.proofs.Common.{refl, sym, ap, ◌∙◌, subst, append_assoc, append-nil}
 use Rattle.odb_base.specs.Path.{Path}
 use Rattle.odb_disk.specs.declared.ask.DiskAnswer.{DiskAnswer}
@@ -34,7 +34,7 @@ use Rattle.gix_odb_calls.specs.declared.verdict.FolderCall.{FolderCall}
 use Rattle.gix_odb_calls.specs.declared.verdict.Verdict.{Verdict}
 use Rattle.gix_odb_calls.specs.declared.verdict.Verdict.TheVariants as verdicts
 use Rattle.gix_odb.specs.LookExchanges.{AreAsked, Exchange, behind}
-use Rattle.gix_odb.specs.Fair.{AreFair, PackedPlace}
+use Rattle.gix_odb.specs.Fair.{AreFair, IsCarried, PackedPlace}
 use Rattle.gix_odb.specs.LoadIndex.{of_refusal}
 use Rattle.gix_odb.specs.LookUpOrder.{Setting, after_list, ask_at, at_folder, by_read, by_refresh, by_tried, by_verdict, fed, fed_at, find_error, goal_of}
 use Rattle.gix_odb.specs.LookUpOrder.{loose_from, new_head, not_found, result_of, seen, started, trier_fed, try_view}
@@ -62,6 +62,7 @@ use Rattle.gix_odb.proofs.MissLaws.Lists.{drop_none, here_or_behind, nothing_ahe
 use Rattle.gix_odb.proofs.MissLaws.Replies.{EndsNoMiss, IsMiss, found_is_no_miss, refused_is_no_miss, verdict_is_no_miss}
 use Rattle.gix_odb.proofs.MissLaws.Track.{IsEarly, IsOn, never_missed}
 use Rattle.gix_odb.specs.Moved.{AreLooseFair, ArePublished, HasLoose, IsLooseFair}
+use Rattle.gix_odb.specs.Store.{listed_for}
 
 -- an answer that says that the object is there is no miss
 answer_is_no_miss : (want : Want) (reply : Reply) → IsAnswer reply → ¬ (IsMiss want reply)
@@ -265,7 +266,7 @@ module _ (setting : Setting) (want : Want) (id : ObjectId) (folder : Path) (amon
   own_behind (stages.Loose round call) waits head own (told.Disk answer) = own
   own_behind (stages.Loose round call) waits head own (told.Core answer) = own
   own_behind (stages.Refreshing refresh purpose notes) waits head own answer =
-      own_step head own purpose notes (refreshes.fed setting.parts.objects setting.parts.folders refresh answer)
+      own_step head own purpose notes (refreshes.fed setting.parts.objects (listed_for setting.parts) refresh answer)
   own_behind (stages.Checking list_no notes) waits head own answer = absurd waits
   own_behind (stages.Done reply) waits head own answer = own
 
@@ -323,13 +324,13 @@ module _ (setting : Setting) (want : Want) (id : ObjectId) (folder : Path) (amon
 -- ---- the object moves
 
 module _ (setting : Setting) (hash : Kind) (want : Want) (id : ObjectId) (of_hash : kind_of id ≡ hash) (place : PackedPlace)
-    (among : Contains (folders_of setting) place.folder) where
+    (carried : IsCarried (listed_for setting.parts).multi place) (among : Contains (folders_of setting) place.folder) where
   abbrev Waits : LookUp → Type 0
   Waits look = IsLookWaiting setting want id place.folder among look
 
   -- before the first listing a look-up is on its track to whatever stays unchanged from now on
   on_track : (stream : Option Stream) (stage : LookStage) → IsWaiting setting want id place.folder among stage
-      → IsOn setting hash want id of_hash place among stream stage
+      → IsOn setting hash want id of_hash place carried among stream stage
   on_track stream (stages.Trying trier parts.Snapshot) waits = tt
   on_track stream (stages.Trying trier (parts.List list_no true)) waits = tt
   on_track stream (stages.Trying trier (parts.List list_no false)) waits = tt
@@ -347,26 +348,26 @@ module _ (setting : Setting) (hash : Kind) (want : Want) (id : ObjectId) (of_has
   on_track stream (stages.Done reply) waits = waits
 
   not_missed : (past : List Exchange) (look : LookUp) → Waits look → (before after : List Exchange) → AreAsked setting look (before ++ after)
-      → ArePublished before → AreLooseFair setting want id place.folder before → AreFair hash id place (past ++ before) after
+      → ArePublished before → AreLooseFair setting want id place.folder before → AreFair (listed_for setting.parts).multi hash id place (past ++ before) after
       → ¬ (result_of (behind setting look (before ++ after)) ≡ Ok (not_found want))
   not_missed past look waiting [] after asked published loose fair =
-      never_missed setting hash want id of_hash place among past look
+      never_missed setting hash want id of_hash place carried among past look
       (record {
         own = record { want_is = waiting.own.want_is; id_is = waiting.own.id_is };
         stage = on_track (stream_in past) look.stage waiting.stage;
       })
-      after asked (subst (λ (es : List Exchange). AreFair hash id place es after) (append-nil past) fair)
+      after asked (subst (λ (es : List Exchange). AreFair (listed_for setting.parts).multi hash id place es after) (append-nil past) fair)
   not_missed past look waiting (exchange ∷ before) after asked published loose fair =
       let here = has_first exchange before in
       not_missed (past ++ exchange ∷ []) (fed setting look exchange.answer)
       (look_waits_on setting want id place.folder among look waiting exchange asked.0 (published exchange here) (loose exchange here))
       before after asked.1 (λ other is. published other (has_later exchange before other is)) (λ other is. loose other (has_later exchange before other is))
-      (subst (λ (es : List Exchange). AreFair hash id place es after) (sym (append_assoc past (exchange ∷ []) before)) fair)
+      (subst (λ (es : List Exchange). AreFair (listed_for setting.parts).multi hash id place es after) (sym (append_assoc past (exchange ∷ []) before)) fair)
 
   -- Let an object be loose in a folder up to an exchange, and stay unchanged in a pack of that folder from then on. A look-up isn't ended by "not
   -- found", if the core of its store had published a list by then.
   pub objects_that_move_into_packs_are_not_missed : (view : View) (before after : List Exchange)
       → AreAsked setting (started setting view want id) (before ++ after) → ArePublished before → AreLooseFair setting want id place.folder before
-      → AreFair hash id place before after → ¬ (result_of (behind setting (started setting view want id) (before ++ after)) ≡ Ok (not_found want))
+      → AreFair (listed_for setting.parts).multi hash id place before after → ¬ (result_of (behind setting (started setting view want id) (before ++ after)) ≡ Ok (not_found want))
   objects_that_move_into_packs_are_not_missed view before after asked published loose fair =
       not_missed [] (started setting view want id) (starts_waiting setting want id place.folder among view) before after asked published loose fair

@@ -25,7 +25,7 @@ use Rattle.gix_odb.specs.JustRead.{IsPackPath, read_of}
 use Rattle.gix_odb.proofs.LastExchange.{asked-within}
 use Rattle.gix_odb.proofs.ReadLaws.{index_that_was_read_is_stored_next, pack_that_was_read_is_stored_next}
 
-module _ (Shown : Path → List ℕ → Type 0) (setting : Setting) (hash : Kind) (want : Want) (id : ObjectId) (same : kind_of id ≡ hash)
+module _ (Shown : Path → ℕ → List ℕ → Type 0) (setting : Setting) (hash : Kind) (want : Want) (id : ObjectId) (same : kind_of id ≡ hash)
     (view : View) (shown : IsShownView Shown setting hash view) (exchanges : List Exchange)
     (asked : AreAsked setting (started setting view want id) exchanges) (truth : AreTrue Shown setting hash exchanges) where
   abbrev start : LookUp

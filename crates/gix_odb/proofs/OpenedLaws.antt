@@ -47,7 +47,7 @@ module _ (setting : Setting) (path : Path) where
   folder_opens_none Header at is = cc is
   folder_opens_none Presence at is = cc is
 
-  module _ (Shown : Path → List ℕ → Type 0) (hash : Kind) (want : Want) (id : ObjectId) (exchanges : List Exchange) where
+  module _ (Shown : Path → ℕ → List ℕ → Type 0) (hash : Kind) (want : Want) (id : ObjectId) (exchanges : List Exchange) where
     opens_by : (stage : LookStage) → KnowsLookStage Shown setting hash id exchanges want stage → ask_at stage ≡ Some (asks.Disk (disk_asks.OpenDir path)) → IsFolderOfPacks setting path
     opens_by (stages.Trying trier part) known is =
         let same : tries.ask_of trier ≡ asks.Disk (disk_asks.OpenDir path) = cc is in absurd (trier_opens_none trier.stage path same)
@@ -56,12 +56,12 @@ module _ (setting : Setting) (path : Path) where
     opens_by (stages.Refreshing fronts.Reading purpose notes) known is = absurd (cc is)
     opens_by (stages.Checking list_no notes) known is = absurd (cc is)
     opens_by (stages.Refreshing (fronts.Listing lister) purpose notes) known is =
-        let same : lists.ask_of lister ≡ disk_asks.OpenDir path = cc is in lister_opens lister.head known.head lister.stage same
+        let same : lists.ask_of lister ≡ disk_asks.OpenDir path = cc is in lister_opens lister.head known.0.head lister.stage same
     opens_by (stages.Refreshing (fronts.Publishing listing) purpose notes) known is = absurd (cc is)
     opens_by (stages.Done reply) known is = absurd (cc is)
 
 -- a directory that a look-up opens is the folder of packs of one of the folders
-pub look_ups_open_folders_of_packs : (Shown : Path → List ℕ → Type 0) (setting : Setting) (hash : Kind) (want : Want) (id : ObjectId) → kind_of id ≡ hash
+pub look_ups_open_folders_of_packs : (Shown : Path → ℕ → List ℕ → Type 0) (setting : Setting) (hash : Kind) (want : Want) (id : ObjectId) → kind_of id ≡ hash
     → (view : View) → IsShownView Shown setting hash view → (exchanges : List Exchange) → AreAsked setting (started setting view want id) exchanges
     → AreTrue Shown setting hash exchanges → (path : Path)
     → ask_of (behind setting (started setting view want id) exchanges) ≡ Some (asks.Disk (disk_asks.OpenDir path))

@@ -20,7 +20,7 @@ use Rattle.gix_odb_events.specs.declared.event.Event.TheVariants as events
 use Rattle.gix_odb_events.specs.declared.event.PassWhy.TheVariants as whys
 use Rattle.gix_odb_events.specs.declared.view.View.{View}
 use Rattle.gix_odb_search.specs.ListOrder as lists
-use Rattle.gix_odb_search.specs.PackFolder.{pack_folder}
+use Rattle.gix_odb_search.specs.PackFolder.{multi_index_path, pack_folder}
 use Rattle.gix_odb_search.specs.TryOrder as tries
 use Rattle.gix_odb_events.specs.declared.answer.Answer.{Answer}
 use Rattle.gix_odb_events.specs.declared.answer.Answer.TheVariants as told
@@ -42,6 +42,7 @@ use Rattle.gix_odb_calls.specs.Verdict.{asking, folder_ask}
 use Rattle.gix_odb_calls.specs.declared.verdict.FolderCall.{FolderCall}
 use Rattle.gix_object.specs.declared.want.Want.{Want}
 use Rattle.gix_object.specs.declared.want.Want.TheVariants.{Object, Header, Presence}
+use Rattle.gix_odb.specs.Found.{IsInIndex}
 use Rattle.gix_odb.specs.LookExchanges.{AreAsked, Exchange, behind}
 use Rattle.gix_odb.specs.LookUpOrder.{Setting, ask_at, ask_of, by_tried, fed, fed_at, seen, started}
 use Rattle.gix_odb.specs.Shown.{IsIndexPath, IsShownView}
@@ -57,19 +58,22 @@ use Rattle.gix_odb.proofs.FoundLaws.Known.{KnowsLook, KnowsLookStage, KnowsLoose
 use Rattle.gix_odb.proofs.HandedLaws.Stages.{same_ask}
 use Rattle.gix_odb.specs.JustRead.{GotLast, IsOfLastRead, IsPackPath, ReadLast, read_of}
 use Rattle.gix_odb.proofs.LastExchange.{Cut, asked-push, behind-push, none_or_cut, true_before, true_last}
-use Rattle.gix_odb.proofs.PathsApart.{index_is_no_pack, index_is_no_pack_of, loose_is_in_no_pack_folder}
+use Rattle.gix_odb.proofs.PathsApart.{index_is_no_multi, index_is_no_pack, index_is_no_pack_in_multi, index_is_no_pack_of, loose_is_in_no_pack_folder, multi_is_no_pack}
 use Rattle.gix_odb.proofs.ReadLaws.Stored.{IsRead, IsReadAt, answer_goes, seek_goes}
 use Rattle.gix_odb.proofs.TrierAtHand.{Goes, OfStage, stage_goes, start_has}
 
 -- ---- a read that is asked for
 
-lister_reads_nothing : (folder : Path) (stage : ListStage) (path : Path) → ¬ (Some (asks.Disk (lists.ask_at folder stage)) ≡ Some (asks.Disk (disk_asks.Read path)))
-lister_reads_nothing folder list_stages.Opening path is = cc is
-lister_reads_nothing folder (list_stages.Reading dir entries) path is = cc is
-lister_reads_nothing folder (list_stages.Closing dir entries) path is = cc is
-lister_reads_nothing folder (list_stages.Breaking dir) path is = cc is
-lister_reads_nothing folder (list_stages.Index own left) path is = cc is
-lister_reads_nothing folder (list_stages.Pack row left) path is = cc is
+-- a listing reads the multi-pack index of its folder alone
+lister_reads : (folder : Path) (stage : ListStage) (path : Path) → Some (asks.Disk (lists.ask_at folder stage)) ≡ Some (asks.Disk (disk_asks.Read path))
+    → multi_index_path folder ≡ path
+lister_reads folder list_stages.Opening path is = absurd (cc is)
+lister_reads folder (list_stages.Reading dir entries) path is = absurd (cc is)
+lister_reads folder (list_stages.Closing dir entries) path is = absurd (cc is)
+lister_reads folder (list_stages.Breaking dir) path is = absurd (cc is)
+lister_reads folder (list_stages.Index own left) path is = absurd (cc is)
+lister_reads folder (list_stages.Pack row left) path is = absurd (cc is)
+lister_reads folder (list_stages.Multi left) path is = cc is
 
 -- the loose objects of a folder are read at one path
 loose_reads : (limit : Option ℕ) (want : Want) (id : ObjectId) (folder path : Path)
@@ -78,7 +82,7 @@ loose_reads limit Object id folder path is = cc is
 loose_reads limit Header id folder path is = cc is
 loose_reads limit Presence id folder path is = absurd (cc is)
 
-module _ (Shown : Path → List ℕ → Type 0) (setting : Setting) (hash : Kind) (want : Want) (id : ObjectId) (same : kind_of id ≡ hash) where
+module _ (Shown : Path → ℕ → List ℕ → Type 0) (setting : Setting) (hash : Kind) (want : Want) (id : ObjectId) (same : kind_of id ≡ hash) where
   no_loose : (all : List Exchange) (call : FolderCall) → KnowsLoose Shown setting hash id all want call → (folder : Path) (name : Name)
       → ¬ (Some (asks.Disk (folder_ask call)) ≡ Some (asks.Disk (disk_asks.Read (pack_folder folder ++ name ∷ []))))
   no_loose all call known folder name is =
@@ -115,13 +119,17 @@ module _ (Shown : Path → List ℕ → Type 0) (setting : Setting) (hash : Kind
       )
       index_tested place at false is = absurd (cc is)
 
+      -- an index has not the path of a pack in which an index gives the id an offset
+      no_pack : IsIndexPath setting path → (other : Path) (offset : ℕ) → IsInIndex Shown setting hash id other offset → ¬ (path ≡ other)
+      no_pack index other offset (inl single) is = index_is_no_pack_of setting path index single.path single.at (is ∙ single.is)
+      no_pack index other offset (inr multi) is = index_is_no_pack_in_multi setting path index multi.path multi.at multi.name (is ∙ multi.is)
+
       index_put : IsIndexPath setting path → is_index hash bytes ≡ true → (stage : Stage) → KnowsStage Shown setting hash id stage
           → Some (tries.ask_at stage) ≡ Some (asks.Disk (disk_asks.Read path)) → PutsIndex (next_by stage)
       index_put index parsed (tries_stages.Loading (loaders.Reading place)) known is =
           index_tested place (cc is) (is_index (kind_of goal.id) bytes) (subst (λ (kind : Kind). is_index kind bytes ≡ true) (sym of_hash) parsed)
       index_put index parsed (tries_stages.ReadingPack pack) known is =
-          let at : path ≡ pack.path = sym (cc is) in
-          absurd (index_is_no_pack_of setting path index known.path known.index.at (at ∙ known.is))
+          let at : pack.path ≡ path = cc is in absurd (no_pack index pack.path pack.offset known (sym at))
       index_put index parsed (tries_stages.Loading (loaders.Storing place own)) known is = absurd (cc is)
       index_put index parsed (tries_stages.Loading (loaders.Passing place why)) known is = absurd (cc is)
       index_put index parsed (tries_stages.StoringPack pack own) known is = absurd (cc is)
@@ -165,7 +173,7 @@ module _ (Shown : Path → List ℕ → Type 0) (setting : Setting) (hash : Kind
           absurd (no_loose all call known index.folder index.name (is ∙ ap (λ (p : Path). Some (asks.Disk (disk_asks.Read p))) index.is))
       index_stage index parsed head (stages.Refreshing fronts.Reading purpose notes) known is = absurd (cc is)
       index_stage index parsed head (stages.Refreshing (fronts.Listing lister) purpose notes) known is =
-          absurd (lister_reads_nothing lister.head.folder lister.stage path is)
+          absurd (index_is_no_multi setting path index lister.head.folder (sym (lister_reads lister.head.folder lister.stage path is)))
       index_stage index parsed head (stages.Refreshing (fronts.Publishing listing) purpose notes) known is = absurd (cc is)
       index_stage index parsed head (stages.Checking list_no notes) known is = absurd (cc is)
       index_stage index parsed head (stages.Done reply) known is = absurd (cc is)
@@ -178,7 +186,7 @@ module _ (Shown : Path → List ℕ → Type 0) (setting : Setting) (hash : Kind
           absurd (no_loose all call known pack.folder (pack.stem ++ codes ".pack") (is ∙ ap (λ (p : Path). Some (asks.Disk (disk_asks.Read p))) pack.is))
       pack_stage pack parsed head (stages.Refreshing fronts.Reading purpose notes) known is = absurd (cc is)
       pack_stage pack parsed head (stages.Refreshing (fronts.Listing lister) purpose notes) known is =
-          absurd (lister_reads_nothing lister.head.folder lister.stage path is)
+          absurd (multi_is_no_pack lister.head.folder (pack_folder pack.folder) pack.stem (lister_reads lister.head.folder lister.stage path is ∙ pack.is))
       pack_stage pack parsed head (stages.Refreshing (fronts.Publishing listing) purpose notes) known is = absurd (cc is)
       pack_stage pack parsed head (stages.Checking list_no notes) known is = absurd (cc is)
       pack_stage pack parsed head (stages.Done reply) known is = absurd (cc is)

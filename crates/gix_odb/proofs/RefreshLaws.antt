@@ -3,7 +3,8 @@ pub mod Known
 pub mod Causes
 pub mod Differ
 pub mod Turns
-use Rattle.std.proofs.Common.{◌≡◌, ◌⊎◌, inl, inr, ℕ, ◌≤◌, Bool, true, false, List, [], ◌∷◌, length, All, Some, None, refl, sym, ap, ◌∙◌, subst}
+pub mod Seen
+use Rattle.std.proofs.Common.{◌≡◌, ◌⊎◌, inl, inr, ℕ, ◌≤◌, Bool, true, false, List, [], ◌∷◌, length, All, Contains, Some, None, refl, sym, ap, ◌∙◌, subst}
 use Rattle.std.specs.Prelude.{if◌then◌else◌}
 use Rattle.std.proofs.lemmas.Option.{same_Some}
 use Rattle.odb_base.specs.Path.{Path}
@@ -17,13 +18,15 @@ use Rattle.gix_odb_events.specs.declared.event.Event.{Event}
 use Rattle.gix_odb_events.specs.declared.event.Event.TheVariants as events
 use Rattle.gix_odb_events.specs.declared.view.View.{View}
 use Rattle.gix_odb_search.specs.ListOrder as lists
+use Rattle.gix_odb_search.specs.ListedStore.{ListedStore}
 use Rattle.gix_odb_events.specs.declared.answer.Answer.{Answer}
 use Rattle.gix_odb_events.specs.declared.answer.Ask.{Ask}
 use Rattle.gix_odb_events.specs.declared.answer.Ask.TheVariants as asks
 use Rattle.gix_odb_calls.specs.declared.load_index.Error.{Error}
 use Rattle.gix_odb.specs.Exchange.{AreAnswered, Exchange}
 use Rattle.gix_odb.specs.Lap.{AreWithin, turns_of_lap}
-use Rattle.gix_odb.specs.Store.{Setting}
+use Rattle.gix_odb.specs.Store.{Setting, listed_for}
+use Rattle.gix_odb.specs.True.{IsReadShown}
 use Rattle.gix_odb.specs.Shown.{IsHanded, IsIndexRow, folders_of}
 use Rattle.gix_odb.proofs.ListerLaws.Folders.{IsFolderOfPacks, lister_opens_there}
 use Rattle.gix_odb.proofs.ListerLaws.Reads.{AsksOwn, ChangesNothing, lister_own, lister_reads}
@@ -36,7 +39,9 @@ use Rattle.gix_odb.specs.declared.refresh.Refresh.TheVariants as stages
 use Rattle.gix_odb.specs.declared.refresh.RefreshStep.{RefreshStep}
 use Rattle.gix_odb.specs.declared.refresh.RefreshStep.TheVariants as steps
 use Rattle.gix_odb.proofs.RefreshLaws.Causes.{StepCaused, refresh_caused}
+use Rattle.gix_odb.proofs.ListingLaws.HandedRows.{rows_handed}
 use Rattle.gix_odb.proofs.RefreshLaws.Known.{Knows, refresh_knows, told_of}
+use Rattle.gix_odb.proofs.RefreshLaws.Seen.{GoesSeeing, refresh_sees}
 use Rattle.gix_odb.proofs.RefreshLaws.Turns.{StepHasTurns, lap_is_wide, turns_taken}
 
 -- ---- where nothing is asked
@@ -57,12 +62,12 @@ a_ready_refresh_stays_ready setting (steps.More refresh) ready (exchange ∷ fur
 a_ready_refresh_stays_ready setting (steps.Refused error) ready (exchange ∷ further) = absurd ready
 
 -- as it does after one answer
-pub a_ready_step_stays : (objects : Path) (folders : List Path) (step : RefreshStep) → IsReady step → (answer : Answer) → step_fed objects folders step answer ≡ step
-a_ready_step_stays objects folders (steps.More refresh) ready answer = absurd ready
-a_ready_step_stays objects folders (steps.Read view) ready answer = refl
-a_ready_step_stays objects folders (steps.Current view own) ready answer = refl
-a_ready_step_stays objects folders (steps.Outdated list_no) ready answer = refl
-a_ready_step_stays objects folders (steps.Refused error) ready answer = absurd ready
+pub a_ready_step_stays : (objects : Path) (store : ListedStore) (step : RefreshStep) → IsReady step → (answer : Answer) → step_fed objects store step answer ≡ step
+a_ready_step_stays objects store (steps.More refresh) ready answer = absurd ready
+a_ready_step_stays objects store (steps.Read view) ready answer = refl
+a_ready_step_stays objects store (steps.Current view own) ready answer = refl
+a_ready_step_stays objects store (steps.Outdated list_no) ready answer = refl
+a_ready_step_stays objects store (steps.Refused error) ready answer = absurd ready
 
 pub a_ready_refresh_asks_nothing : (step : RefreshStep) → IsReady step → asked_of step ≡ None
 a_ready_refresh_asks_nothing (steps.More refresh) ready = absurd ready
@@ -164,19 +169,21 @@ module _ (setting : Setting) (snapshot : View) (exchanges : List Exchange) (aske
   pub rows_are_of_the_folders : (listing : Listing) → asked_of refresh ≡ Some (asks.Core (events.Publish listing)) → All (IsIndexRow setting) listing.rows
   rows_are_of_the_folders listing is = handed_on HandsRows refresh (events.Publish listing) (hands_rows refresh knows) is
 
-  -- so what is passed to the core is of the folders, whatever was shown of them
-  pub what_a_refresh_hands_on_is_of_the_folders : (Shown : Path → List ℕ → Type 0) (hash : HashKind) (event : Event) → asked_of refresh ≡ Some (asks.Core event)
-      → IsHanded Shown setting hash event
-  what_a_refresh_hands_on_is_of_the_folders Shown hash event is = handed_on (IsHanded Shown setting hash) refresh event (by refresh knows) is
+  -- so what is passed to the core is of the folders, and the multi-pack indices of its rows were shown, where what was read was
+  pub what_a_refresh_hands_on_is_of_the_folders : (Shown : Path → ℕ → List ℕ → Type 0) (hash : HashKind)
+      → ((exchange : Exchange) → Contains exchanges exchange → IsReadShown Shown exchange.ask exchange.answer)
+      → (event : Event) → asked_of refresh ≡ Some (asks.Core event) → IsHanded Shown setting hash event
+  what_a_refresh_hands_on_is_of_the_folders Shown hash shown event is =
+      handed_on (IsHanded Shown setting hash) refresh event (by refresh knows (refresh_sees Shown setting snapshot exchanges asked shown)) is
     where
-      by : (now : RefreshStep) → Knows setting exchanges now → HandsOn (IsHanded Shown setting hash) now
-      by (steps.More stages.Reading) known = tt
-      by (steps.More (stages.Listing lister)) known = tt
-      by (steps.More (stages.Publishing listing)) known = known.1
-      by (steps.Read view) known = tt
-      by (steps.Current view own) known = tt
-      by (steps.Outdated list_no) known = tt
-      by (steps.Refused error) known = tt
+      by : (now : RefreshStep) → Knows setting exchanges now → GoesSeeing Shown setting now → HandsOn (IsHanded Shown setting hash) now
+      by (steps.More stages.Reading) known seen = tt
+      by (steps.More (stages.Listing lister)) known seen = tt
+      by (steps.More (stages.Publishing listing)) known seen = rows_handed Shown setting hash listing.rows known.1 seen
+      by (steps.Read view) known seen = tt
+      by (steps.Current view own) known seen = tt
+      by (steps.Outdated list_no) known seen = tt
+      by (steps.Refused error) known seen = tt
 
   -- ---- what is asked of the disk
 
@@ -265,11 +272,11 @@ module _ (setting : Setting) (snapshot : View) (exchanges : List Exchange) (aske
   pub a_refresh_takes_at_most_a_lap : (slots entries : ℕ) → AreWithin entries None exchanges → AreAnswered exchanges
       → length exchanges ≤ turns_of_lap slots (length (folders_of setting)) entries
   a_refresh_takes_at_most_a_lap slots entries within answered =
-      turns_taken setting.parts.objects setting.parts.folders entries None (turns_of_lap slots (length (folders_of setting)) entries) (started snapshot) exchanges
+      turns_taken setting.parts.objects (listed_for setting.parts) entries None (turns_of_lap slots (length (folders_of setting)) entries) (started snapshot) exchanges
       (by snapshot.read) asked within answered
     where
       by : (read : Bool)
-          → StepHasTurns setting.parts.objects setting.parts.folders entries None (if read then steps.Read snapshot else steps.More stages.Reading)
+          → StepHasTurns setting.parts.objects (listed_for setting.parts) entries None (if read then steps.Read snapshot else steps.More stages.Reading)
           (turns_of_lap slots (length (folders_of setting)) entries)
       by true = tt
-      by false = lap_is_wide setting.parts.objects setting.parts.folders entries slots
+      by false = lap_is_wide setting.parts.objects (listed_for setting.parts) entries slots

@@ -35,6 +35,7 @@ use Rattle.gix_odb.specs.declared.look_up.Part.{Part}
 use Rattle.gix_odb.specs.declared.look_up.Part.TheVariants as parts
 use Rattle.gix_odb.specs.declared.look_up.Purpose.{Purpose}
 use Rattle.gix_odb.specs.declared.look_up.Purpose.TheVariants as purposes
+use Rattle.gix_odb.specs.Store.{listed_for}
 
 module _ (OfTrier : Trier → Type 0) where
   abbrev pub OfTried : Tried → Type 0
@@ -123,7 +124,7 @@ module _ (OfTrier : Trier → Type 0) where
     stage_goes head (stages.Loose round call) (told.Disk answer) here = of_verdict head round (folder_verdict call answer)
     stage_goes head (stages.Loose round call) (told.Core answer) here = tt
     stage_goes head (stages.Refreshing refresh purpose notes) answer here =
-        of_refresh head purpose notes (refreshes.fed setting.parts.objects setting.parts.folders refresh answer)
+        of_refresh head purpose notes (refreshes.fed setting.parts.objects (listed_for setting.parts) refresh answer)
     stage_goes head (stages.Checking list_no notes) (told.Disk answer) here = tt
     stage_goes head (stages.Checking list_no notes) (told.Core (Ok effect)) here = of_checked head list_no notes (view_shown effect)
     stage_goes head (stages.Checking list_no notes) (told.Core (Err refusal)) here = tt

@@ -41,6 +41,7 @@ use Rattle.gix_odb_events.specs.declared.answer.Ask.TheVariants as asks
 use Rattle.gix_odb_calls.specs.declared.query.Query.{Query}
 use Rattle.gix_odb_calls.specs.declared.load_index.Error as load
 use Rattle.gix_odb_calls.specs.declared.write.Error.TheVariants as write_errors
+use Rattle.gix_odb.specs.Store.{listed_for}
 
 -- ---- a write
 
@@ -59,6 +60,7 @@ is_written reply = false
 
 abbrev pub is_write_at : loose_calls.Stage → Bool
 is_write_at (loose_stages.Asking want path limit) = false
+is_write_at (loose_stages.Searching search) = false
 is_write_at (loose_stages.Writing job) = true
 is_write_at (loose_stages.Done reply) = is_written reply
 
@@ -171,7 +173,7 @@ written_on call (told.Core answer) = call
 -- the stage of a call after the answer to what it asked for
 abbrev pub fed : Setting → CallStage → Answer → CallStage
 fed setting (Looking look) answer = Looking (looks.fed setting look answer)
-fed setting (Refreshing refresh write) answer = fronted (refreshes.fed setting.parts.objects setting.parts.folders refresh answer) write
+fed setting (Refreshing refresh write) answer = fronted (refreshes.fed setting.parts.objects (listed_for setting.parts) refresh answer) write
 fed setting (Writing call) answer = Writing (written_on call answer)
 fed setting (Refused error) answer = Refused error
 

@@ -10,7 +10,6 @@ use Rattle.gix_hash.specs.declared.object_id.ObjectId.{ObjectId}
 use Rattle.gix_pack_read.specs.Pack.{entry_at, header_at, is_pack}
 use Rattle.gix_pack_read.specs.declared.data.Error as pack
 use Rattle.gix_pack_read.specs.declared.data.Error.TheVariants as pack_errors
-use Rattle.gix_odb_events.specs.PackPath.{pack_path}
 use Rattle.gix_odb_events.specs.declared.event.Effect.TheVariants as effects
 use Rattle.gix_odb_events.specs.declared.event.Refusal.TheVariants as refusals
 use Rattle.gix_odb_events.specs.declared.answer.Answer.{Answer}
@@ -29,7 +28,7 @@ use Rattle.gix_odb.specs.LookUpOrder.{Setting, view_of}
 use Rattle.gix_odb.specs.LookExchanges.{Exchange, HasFailed, HasVerdict, IsLast, WasTold, first_number, published_in}
 use Rattle.gix_odb.specs.Found.{IsInIndex, IsInPack}
 use Rattle.gix_odb.specs.Shown.{folders_of}
-pub use Rattle.gix_odb.specs.ListingCaused.{IsBlocked, IsNoFolder, IsRefused}
+pub use Rattle.gix_odb.specs.ListingCaused.{IsBlocked, IsNoFolder, IsRefused, NamesTooMany}
 
 -- a pack could not be read, or its bytes are no pack
 abbrev pub IsNoPack : Kind → DiskAnswer → Type 0
@@ -42,8 +41,8 @@ abbrev pub TellsNumber : Answer → ℕ → Type 0
 TellsNumber (told.Core (Ok (effects.Outdated number))) now = number ≡ now
 TellsNumber answer now = (view : View) × (view_of answer ≡ Some view) × (view.list_no ≡ now)
 
--- Here `Shown path bytes` says that a file with these bytes was shown at this path since the store was opened.
-module _ (Shown : Path → List ℕ → Type 0) (setting : Setting) (hash : Kind) (id : ObjectId) where
+-- Here `Shown path time bytes` says that a file with these bytes and this time was shown at this path since the store was opened.
+module _ (Shown : Path → ℕ → List ℕ → Type 0) (setting : Setting) (hash : Kind) (id : ObjectId) where
   -- An index gives the id an offset, at which its pack refuses what is wanted with this error. No limit refuses a header, and for a
   -- test no pack is read.
   abbrev pub IsPackError : Want → pack.Error → Type 0
@@ -58,7 +57,7 @@ module _ (Shown : Path → List ℕ → Type 0) (setting : Setting) (hash : Kind
     pub offset : ℕ
     pub index : IsInIndex Shown setting hash id path offset
     pub answer : DiskAnswer
-    pub told : WasTold exchanges (asks.Disk (disk_asks.Read (pack_path path))) (told.Disk answer)
+    pub told : WasTold exchanges (asks.Disk (disk_asks.Read path)) (told.Disk answer)
     pub none : IsNoPack hash answer
 
   -- Others published more lists than the look-up may meet: `begun` is the number of the list in the first view that it got,
@@ -75,6 +74,7 @@ module _ (Shown : Path → List ℕ → Type 0) (setting : Setting) (hash : Kind
   IsLoadCaused exchanges load_errors.Io = HasFailed exchanges ⊎ IsNoFolder setting exchanges
   IsLoadCaused exchanges (load_errors.InsufficientSlots current needed) = IsRefused exchanges (refusals.InsufficientSlots current needed)
   IsLoadCaused exchanges load_errors.GenerationOverflow = IsRefused exchanges refusals.GenerationOverflow
+  IsLoadCaused exchanges (load_errors.TooManyPacksInMultiIndex actual limit path) = NamesTooMany setting exchanges actual limit path
   IsLoadCaused exchanges (load_errors.Unsettled begun own now) = IsUnsettled exchanges begun own now
   IsLoadCaused exchanges load_errors.NoMemory = IsRefused exchanges refusals.NoMemory
 

@@ -14,19 +14,22 @@ use Rattle.gix_pack_read.specs.Pack.{Entry, entry_at, header_at, is_pack}
 use Rattle.gix_pack_read.specs.declared.data.entry.Header as entry
 use Rattle.gix_odb_loose.specs.LooseFile as loose
 use Rattle.gix_odb_loose.specs.LooseOrder.{job_of}
-use Rattle.gix_odb.specs.Found.{Gives}
+use Rattle.gix_odb.specs.Found.{Gives, GivesIn}
+use Rattle.gix_odb.specs.Store.{listed_for}
 pub use Rattle.gix_odb_calls.specs.StoreParts.{folder_list}
 use Rattle.gix_odb_calls.specs.declared.query.Query.{Query}
 use Rattle.gix_odb_calls.specs.declared.store_parts.StoreParts.{StoreParts}
 use Rattle.gix_odb_calls.specs.declared.find.Header as headers
 use Rattle.gix_odb_calls.specs.declared.find.Header.TheVariants.{Loose, Packed}
 
--- what an object's bytes may be read from: one loose file; an index of a folder of packs, by its name, which gives an offset; or this and
--- the pack that it is of
+-- what an object's bytes may be read from: one loose file; an index of a folder of packs, by its name, which gives an offset; the multi-pack index
+-- of the folder, which gives an offset in the pack of an index of a name; or one of these two and the pack
 pub data Contents : Type 0 where
   LooseFile : (bytes : List ℕ) → Contents
   InIndex : (name : Name) (index : List ℕ) (offset : ℕ) → Contents
   InPack : (name : Name) (index pack : List ℕ) (offset : ℕ) → Contents
+  InMulti : (name : Name) (multi : List ℕ) (offset : ℕ) → Contents
+  InMultiPack : (name : Name) (multi pack : List ℕ) (offset : ℕ) → Contents
 
 -- what a call may be answered with
 pub data Answer : Type 0 where
@@ -61,9 +64,13 @@ replacement_in store id = get store.replacements id
 abbrev pub sought : StoreParts → (ignoring : Bool) → Query → ObjectId
 sought store ignoring query = sought_with (replacement_in store) ignoring query
 
--- a path of a tree shows a file with those bytes, links followed
+-- a path of a tree shows a file with those bytes and that time, links followed
+abbrev pub ShowsFileAt : Tree → Path → (time : ℕ) → List ℕ → Type 0
+ShowsFileAt tree path time bytes = read_of tree path ≡ Ok (bytes, time)
+
+-- at any time of the file
 abbrev pub ShowsFile : Tree → Path → List ℕ → Type 0
-ShowsFile tree path bytes = (time : ℕ) × (read_of tree path ≡ Ok (bytes, time))
+ShowsFile tree path bytes = (time : ℕ) × ShowsFileAt tree path time bytes
 
 -- What a loose file answers a call, as an answer of a store. A file holds only answers of one form for a call, so the last row, for those
 -- of another form, never applies.
@@ -88,12 +95,15 @@ HoldsEntry store wants.Presence hash pack offset answer = ⊥
 -- Contents hold an answer of a call that seeks an id. A loose file holds an object if it is a header with that kind and the length of
 -- the data, and then the data, whose length is within the limit. It holds a header if it begins with it. Any file holds the answer of
 -- a test. An index and its pack, both of the hash of the id, hold an answer where the index gives the id an offset at which the pack holds it;
--- for a test the index is enough.
+-- for a test the index is enough. So do a multi-pack index that the store can use, and the pack that it names.
 abbrev pub Holds : StoreParts → Want → (id : ObjectId) → Contents → Answer → Type 0
 Holds store want id (LooseFile bytes) answer = (own : loose.Answer) × (answer ≡ of_loose want own) × loose.Holds store.alloc_limit_bytes (job_of want id) bytes own
 Holds store want id (InIndex name index offset) answer = Gives (kind_of id) index id offset × IsOfRow want answer
 Holds store want id (InPack name index pack offset) answer =
     Gives (kind_of id) index id offset × (is_pack (kind_of id) pack ≡ true) × HoldsEntry store want (kind_of id) pack offset answer
+Holds store want id (InMulti name multi offset) answer = GivesIn (listed_for store).multi multi id name offset × IsOfRow want answer
+Holds store want id (InMultiPack name multi pack offset) answer =
+    GivesIn (listed_for store).multi multi id name offset × (is_pack (kind_of id) pack ≡ true) × HoldsEntry store want (kind_of id) pack offset answer
 
 -- contents are sound for a call that seeks an id where they hold some answer of it
 abbrev pub IsSound : StoreParts → Want → (id : ObjectId) → Contents → Type 0

@@ -10,21 +10,20 @@ use Rattle.gix_object.specs.declared.kind.Kind as object
 use Rattle.gix_pack_read.specs.Pack.{Entry, entry_at}
 use Rattle.gix_odb_loose.specs.LooseFile.{loose_path}
 use Rattle.gix_odb_loose.specs.LooseOrder.Answered.{found_by}
-use Rattle.gix_odb_events.specs.PackPath.{pack_path}
 use Rattle.gix_odb_events.specs.declared.answer.Answer.TheVariants as told
 use Rattle.gix_odb_events.specs.declared.answer.Ask.TheVariants as asks
 use Rattle.gix_odb.specs.LookExchanges.{Exchange, WasTold}
-use Rattle.gix_odb.specs.Found.{Gives}
+use Rattle.gix_odb.specs.Found.{IsInIndex}
 use Rattle.gix_odb.specs.LookUpOrder.{Setting}
-use Rattle.gix_odb.specs.Shown.{IsIndexPath, folders_of}
+use Rattle.gix_odb.specs.Shown.{ShowedBytes, folders_of}
 
 module _ (setting : Setting) (hash : Kind) (id : ObjectId) where
-  -- Here `Shown path bytes` says that a file with these bytes was shown at this path since the store was opened. Each object to which an
-  -- index leads from the id, in the pack of the same name, has data that hash to the id.
-  abbrev pub PacksHash : (Shown : Path → List ℕ → Type 0) → Type 0
+  -- Here `Shown path time bytes` says that a file with these bytes and this time was shown at this path since the store was opened. Each object to
+  -- which an index leads from the id, in a pack of it, has data that hash to the id.
+  abbrev pub PacksHash : (Shown : Path → ℕ → List ℕ → Type 0) → Type 0
   PacksHash Shown =
-      (path : Path) (index pack : List ℕ) (offset : ℕ) (entry : Entry) → IsIndexPath setting path → Shown path index → Gives hash index id offset
-      → Shown (pack_path path) pack → entry_at hash pack offset setting.parts.alloc_limit_bytes ≡ Ok entry → object_id hash entry.kind entry.bytes ≡ id
+      (path : Path) (pack : List ℕ) (offset : ℕ) (entry : Entry) → IsInIndex Shown setting hash id path offset → ShowedBytes Shown path pack
+      → entry_at hash pack offset setting.parts.alloc_limit_bytes ≡ Ok entry → object_id hash entry.kind entry.bytes ≡ id
 
   -- each object that was read at the id's path in one of the folders has data that hash to the id
   abbrev pub LooseHash : List Exchange → Type 0

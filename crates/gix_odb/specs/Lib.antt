@@ -33,6 +33,7 @@ pub mod AtHand
 pub mod JustRead
 pub mod Following
 pub mod ListedFiles
+pub mod ListedRows
 pub mod ListerCalls
 pub mod Moved
 pub mod Hashed

@@ -1,10 +1,10 @@
 -- The files of packs that a tree lists for a store, and when one unchanging tree answers.
-use Rattle.std.specs.Prelude.{◌≡◌, ◌&&◌, ◌++◌, Bool, true, false, List, [], ◌∷◌, Option, Some, None, Result, Ok, Err}
+use Rattle.std.specs.Prelude.{◌≡◌, ℕ, ◌&&◌, ◌||◌, ◌++◌, Bool, true, false, List, [], ◌∷◌, Option, Some, None, is_some, Result, Ok, Err}
 use Rattle.std.specs.List.{filter, filter_map}
 use Rattle.odb_base.specs.Path.{Path}
 use Rattle.odb_disk.specs.Entries.{opened}
 use Rattle.odb_disk.specs.Tree.{Tree}
-use Rattle.odb_disk.specs.Tree.Follow.{Refusal, looked}
+use Rattle.odb_disk.specs.Tree.Follow.{Refusal, looked, read_of}
 use Rattle.odb_disk.specs.declared.disk_error.DiskError.TheVariants as disk_errors
 use Rattle.odb_disk.specs.declared.entry.Entry.{Entry}
 use Rattle.odb_disk.specs.declared.meta.Meta.{Meta}
@@ -15,8 +15,12 @@ use Rattle.odb_disk.specs.declared.ask.DiskAsk.{DiskAsk}
 use Rattle.odb_disk.specs.declared.ask.DiskAsk.TheVariants as asks
 use Rattle.gix_odb_events.specs.PackPath.{pack_path}
 use Rattle.gix_odb_events.specs.declared.listing.ListingRow.{ListingRow}
-use Rattle.gix_odb_search.specs.ListOrder.{row_of}
-use Rattle.gix_odb_search.specs.PackFolder.{is_file, is_index_name, pack_folder}
+use Rattle.gix_odb_search.specs.ListOrder.{multi_row, row_of}
+use Rattle.gix_odb_search.specs.MultiPack.{is_usable, unnamed}
+use Rattle.gix_odb_search.specs.PackFolder.{index_path_in, is_file, is_index_name, is_multi_index_name, multi_index_path, pack_folder}
+use Rattle.gix_odb_search.specs.declared.folders.IndexPath.{IndexPath}
+use Rattle.gix_odb_search.specs.declared.folders.IndexPath.TheVariants.{Single, Multi}
+use Rattle.gix_odb_search.specs.declared.multi_pack.MultiUse.{MultiUse}
 use Rattle.gix_odb_events.specs.declared.answer.Answer.{Answer}
 use Rattle.gix_odb_events.specs.declared.answer.Answer.TheVariants as told
 use Rattle.gix_odb_events.specs.declared.answer.Ask.{Ask}
@@ -44,22 +48,48 @@ row_found path has_pack (Err refusal) = None
 abbrev pub row_at : Tree → Path → Option ListingRow
 row_at tree path = row_found path (finds_file (looked tree (pack_path path) true)) (looked tree path false)
 
+-- the row of a multi-pack index by its content, if a store can use it
+abbrev pub multi_found : Option MultiUse → Path → Result (List ℕ × ℕ) Refusal → Option ListingRow
+multi_found multi path (Ok (bytes, time)) = row_where (is_usable multi bytes) (multi_row path bytes time)
+multi_found multi path (Err refusal) = None
+
+abbrev pub multi_where : Bool → Option ListingRow → Option ListingRow
+multi_where true row = row
+multi_where false row = None
+
+-- the row of a path that is itself a file with a multi-pack index that the store can use
+abbrev pub multi_at : Tree → Option MultiUse → Path → Option ListingRow
+multi_at tree multi path = multi_where (finds_file (looked tree path false)) (multi_found multi path (read_of tree path))
+
+abbrev pub row_of_file : Tree → Option MultiUse → (packs : Path) → IndexPath → Option ListingRow
+row_of_file tree multi packs (Single path) = row_at tree path
+row_of_file tree multi packs Multi = multi_at tree multi (multi_index_path packs)
+
+-- the name of an index, or of the multi-pack index where it is looked for
+abbrev pub has_index_name : (multi : Bool) → Entry → Bool
+has_index_name multi entry = is_index_name entry.name || (multi && is_multi_index_name entry.name)
+
 -- the rows of the indices among the entries of a folder of packs, in their order
-abbrev pub rows_of : Tree → (packs : Path) → List Entry → List ListingRow
-rows_of tree packs entries = filter_map (λ entry. row_at tree (packs ++ entry.name ∷ [])) (filter (λ entry. is_index_name entry.name) entries)
+abbrev pub rows_of : Tree → Option MultiUse → (packs : Path) → List Entry → List ListingRow
+rows_of tree multi packs entries =
+    filter_map (λ entry. row_of_file tree multi packs (index_path_in packs entry)) (filter (has_index_name (is_some multi)) entries)
 
 -- a folder that doesn't open has none
-abbrev pub rows_opened : Tree → (packs : Path) → Result (List Entry) Refusal → List ListingRow
-rows_opened tree packs (Ok entries) = rows_of tree packs entries
-rows_opened tree packs (Err refusal) = []
+abbrev pub rows_opened : Tree → Option MultiUse → (packs : Path) → Result (List Entry) Refusal → List ListingRow
+rows_opened tree multi packs (Ok entries) = rows_of tree multi packs entries
+rows_opened tree multi packs (Err refusal) = []
 
-abbrev pub rows_in : Tree → (packs : Path) → List ListingRow
-rows_in tree packs = rows_opened tree packs (opened tree packs)
+abbrev pub rows_in : Tree → Option MultiUse → (packs : Path) → List ListingRow
+rows_in tree multi packs = rows_opened tree multi packs (opened tree packs)
 
--- the listed files of the folders, one folder after another
-abbrev pub listed_in : Tree → (folders : List Path) → List ListingRow
-listed_in tree [] = []
-listed_in tree (folder ∷ folders) = rows_in tree (pack_folder folder) ++ listed_in tree folders
+-- the rows of the folders, one folder after another
+abbrev pub all_rows : Tree → Option MultiUse → (folders : List Path) → List ListingRow
+all_rows tree multi [] = []
+all_rows tree multi (folder ∷ folders) = rows_in tree multi (pack_folder folder) ++ all_rows tree multi folders
+
+-- the listed files of the folders: an index that a listed multi-pack index names isn't one
+abbrev pub listed_in : Tree → Option MultiUse → (folders : List Path) → List ListingRow
+listed_in tree multi folders = unnamed (all_rows tree multi folders)
 
 -- ---- answers of one tree
 

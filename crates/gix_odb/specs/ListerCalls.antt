@@ -1,6 +1,5 @@
 -- A listing by itself: the calls of its lister, and what it found of each row.
-use Rattle.std.specs.Prelude.{◌≡◌, List, [], ◌∷◌, Contains, true, false}
-use Rattle.odb_base.specs.Path.{Path}
+use Rattle.std.specs.Prelude.{◌≡◌, ℕ, List, [], ◌∷◌, Contains, true, false, Option, Some, None}
 use Rattle.odb_disk.specs.Tree.{Tree}
 use Rattle.odb_disk.specs.declared.entry.Entry.{Entry}
 use Rattle.odb_disk.specs.declared.meta.Kind.TheVariants as kinds
@@ -11,7 +10,8 @@ use Rattle.odb_disk.specs.declared.ask.DiskAsk.{DiskAsk}
 use Rattle.odb_disk.specs.declared.ask.DiskAsk.TheVariants as asks
 use Rattle.gix_odb_events.specs.PackPath.{pack_path}
 use Rattle.gix_odb_events.specs.declared.listing.ListingRow.{ListingRow}
-use Rattle.gix_odb_search.specs.ListOrder.{ask_of, fed}
+use Rattle.gix_odb_search.specs.ListedStore.{ListedStore}
+use Rattle.gix_odb_search.specs.ListOrder.{ask_of, fed, multi_row}
 use Rattle.gix_odb_search.specs.declared.lister.ListStep.{ListStep}
 use Rattle.gix_odb_search.specs.declared.lister.ListStep.TheVariants as steps
 use Rattle.gix_odb.specs.ListedFiles.{IsOfTree}
@@ -22,18 +22,16 @@ pub record Call : Type 0 where
   pub answer : DiskAnswer
 
 -- the result of a listing after calls. One that has ended stays as it is
-abbrev pub behind_calls : (folders : List Path) → ListStep → List Call → ListStep
-behind_calls folders step [] = step
-behind_calls folders (steps.More lister) (call ∷ calls) = behind_calls folders (fed folders lister call.answer) calls
-behind_calls folders (steps.Listed listing) (call ∷ calls) = steps.Listed listing
-behind_calls folders steps.Broken (call ∷ calls) = steps.Broken
+abbrev pub behind_calls : ListedStore → ListStep → List Call → ListStep
+behind_calls store step [] = step
+behind_calls store (steps.More lister) (call ∷ calls) = behind_calls store (fed store lister call.answer) calls
+behind_calls store step (call ∷ calls) = step
 
 -- each call is the one that the lister asks for then
-abbrev pub AreCalls : (folders : List Path) → ListStep → List Call → Type 0
-AreCalls folders step [] = Unit {0}
-AreCalls folders (steps.More lister) (call ∷ calls) = (ask_of lister ≡ call.ask) × AreCalls folders (fed folders lister call.answer) calls
-AreCalls folders (steps.Listed listing) (call ∷ calls) = ⊥
-AreCalls folders steps.Broken (call ∷ calls) = ⊥
+abbrev pub AreCalls : ListedStore → ListStep → List Call → Type 0
+AreCalls store step [] = Unit {0}
+AreCalls store (steps.More lister) (call ∷ calls) = (ask_of lister ≡ call.ask) × AreCalls store (fed store lister call.answer) calls
+AreCalls store step (call ∷ calls) = ⊥
 
 -- a call was made, with this answer
 abbrev pub WasCalled : List Call → DiskAsk → DiskAnswer → Type 0
@@ -46,6 +44,10 @@ AreCallsOfTree tree coming (call ∷ calls) = (left : List Entry) × IsOfTree tr
 
 -- Here `Told ask answer` says that a call was made, with this answer.
 module _ (Told : DiskAsk → DiskAnswer → Type 0) where
+  -- a multi-pack index was read, with the time of its row
+  abbrev pub IsMultiSeen : ListingRow → List ℕ → Type 0
+  IsMultiSeen row bytes = (row ≡ multi_row row.path bytes row.time) × Told (asks.Read row.path) (answers.File bytes row.time)
+
   -- an index was itself a file, of the time and length of its row
   pub record IsIndexSeen (row : ListingRow) : Type 0 where
     pub meta : Meta
@@ -55,8 +57,16 @@ module _ (Told : DiskAsk → DiskAnswer → Type 0) where
     pub len : row.len ≡ meta.len
 
   -- and its pack's path showed a file
-  pub record IsRowSeen (row : ListingRow) : Type 0 where
+  pub record IsSingleSeen (row : ListingRow) : Type 0 where
     pub index : IsIndexSeen row
     pub meta : Meta
     pub told : Told (asks.Look (pack_path row.path) true) (answers.Meta meta)
     pub file : meta.kind ≡ kinds.File
+
+  abbrev pub IsSeenAs : ListingRow → Option (List ℕ) → Type 0
+  IsSeenAs row None = IsSingleSeen row
+  IsSeenAs row (Some bytes) = IsMultiSeen row bytes
+
+  -- what a listing found of a row
+  abbrev pub IsRowSeen : ListingRow → Type 0
+  IsRowSeen row = IsSeenAs row row.multi

@@ -39,6 +39,7 @@ pub use Rattle.gix_odb.specs.LookUpOrder.Trying.{goal_of, after_list, by_tried, 
 pub use Rattle.gix_odb.specs.LookUpOrder.Checking.{is_unsettled, unsettled, counted, by_check, by_checked}
 pub use Rattle.gix_odb.specs.LookUpOrder.Refreshing.{by_read, with_own, own_by, without_absent, by_current, by_refresh}
 pub use Rattle.gix_odb.specs.RefreshOrder.{view_of, view_shown}
+use Rattle.gix_odb.specs.Store.{listed_for}
 
 abbrev pub without_notes : Notes
 without_notes = record { failed = false; absent = [] }
@@ -88,7 +89,7 @@ abbrev pub fed_at : Setting → LookHead → LookStage → Answer → LookUp
 fed_at setting head (stages.Trying trier part) answer = at head (by_tried setting head part (trier_fed trier answer))
 fed_at setting head (stages.Loose round call) (told.Disk answer) = at head (by_verdict setting head round (folder_verdict call answer))
 fed_at setting head (stages.Refreshing refresh purpose notes) answer =
-    by_refresh setting head purpose notes (refreshes.fed setting.parts.objects setting.parts.folders refresh answer)
+    by_refresh setting head purpose notes (refreshes.fed setting.parts.objects (listed_for setting.parts) refresh answer)
 fed_at setting head (stages.Checking list_no notes) (told.Core (Ok effect)) = at head (by_checked setting head list_no notes (view_shown effect))
 fed_at setting head (stages.Checking list_no notes) (told.Core (Err refusal)) = at head (stages.Done (load_refused (of_refusal refusal)))
 fed_at setting head stage answer = at head stage

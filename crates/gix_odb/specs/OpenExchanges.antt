@@ -1,6 +1,5 @@
 -- What an opening asked and was answered, the number of slots that follows, and why one is refused.
 use Rattle.std.specs.Prelude.{◌≡◌, ℕ, ◌<◌, true, List, [], ◌∷◌, length, Option}
-use Rattle.odb_base.specs.Path.{Path}
 use Rattle.odb_disk.specs.declared.ask.DiskAnswer.{DiskAnswer}
 use Rattle.odb_disk.specs.declared.ask.DiskAnswer.TheVariants as answers
 use Rattle.odb_disk.specs.declared.ask.DiskAsk.TheVariants as disk_asks
@@ -10,6 +9,7 @@ use Rattle.odb_disk.specs.declared.meta.Kind.TheVariants as kinds
 use Rattle.gix_odb_events.specs.PackId.{most_slots}
 use Rattle.gix_odb_events.specs.declared.listing.Listing.{Listing}
 use Rattle.gix_odb_search.specs.ListOrder as lists
+use Rattle.gix_odb_search.specs.ListedStore.{ListedStore}
 use Rattle.gix_odb_events.specs.declared.answer.Answer.{Answer}
 use Rattle.gix_odb_events.specs.declared.answer.Answer.TheVariants as told
 use Rattle.gix_odb_events.specs.declared.answer.Ask.{Ask}
@@ -24,7 +24,9 @@ use Rattle.gix_odb_calls.specs.declared.load_index.Error.TheVariants as load_err
 use Rattle.gix_odb.specs.LookExchanges.{Exchange, HasFailed, WasTold}
 use Rattle.gix_odb.specs.LookUpOrder.{Setting}
 use Rattle.gix_odb.specs.Asked as any
+use Rattle.gix_odb.specs.ListingCaused.{NamesTooMany}
 use Rattle.gix_odb.specs.Refreshed.{HasBroken}
+use Rattle.gix_odb.specs.Store.{listed_for}
 use Rattle.gix_odb.specs.OpenOrder.{ask_of, fed, slots_for}
 use Rattle.gix_odb.specs.declared.open_state.OpenStage.{OpenStage}
 
@@ -36,7 +38,7 @@ asks_of setting state = ask_of setting.parts.objects setting.parts.folders state
 
 -- an opening after the answer
 abbrev pub fed_by : Setting → Slots → OpenStage → Answer → OpenStage
-fed_by setting slots state answer = fed setting.parts.objects setting.parts.folders slots state answer
+fed_by setting slots state answer = fed setting.parts.objects (listed_for setting.parts) slots state answer
 
 abbrev pub behind : Setting → Slots → OpenStage → List Exchange → OpenStage
 behind setting slots state exchanges = any.behind (asks_of setting) (fed_by setting slots) state exchanges
@@ -47,20 +49,20 @@ AreAsked setting slots state exchanges = any.AreAsked (asks_of setting) (fed_by 
 -- ---- the listing among them
 
 -- a listing after an answer
-abbrev pub list_by : List Path → ListStep → Answer → ListStep
-list_by folders (listed.More lister) (told.Disk answer) = lists.fed folders lister answer
-list_by folders step answer = step
+abbrev pub list_by : ListedStore → ListStep → Answer → ListStep
+list_by store (listed.More lister) (told.Disk answer) = lists.fed store lister answer
+list_by store step answer = step
 
-abbrev pub list_behind : List Path → ListStep → List Exchange → ListStep
-list_behind folders step [] = step
-list_behind folders step (exchange ∷ exchanges) = list_behind folders (list_by folders step exchange.answer) exchanges
+abbrev pub list_behind : ListedStore → ListStep → List Exchange → ListStep
+list_behind store step [] = step
+list_behind store step (exchange ∷ exchanges) = list_behind store (list_by store step exchange.answer) exchanges
 
 -- after a stat of the objects directory the folders of packs were listed, with this result
 pub record HasListed (setting : Setting) (exchanges : List Exchange) (step : ListStep) : Type 0 where
   pub look : Exchange
   pub listing : List Exchange
   pub are : exchanges ≡ look ∷ listing
-  pub comes : list_behind setting.parts.folders (listed.More (lists.started setting.parts.objects 0)) listing ≡ step
+  pub comes : list_behind (listed_for setting.parts) (listed.More (lists.started setting.parts.objects 0)) listing ≡ step
 
 -- ---- how many slots
 
@@ -89,5 +91,6 @@ IsCaused setting slots exchanges opening_errors.NotADirectory =
 IsCaused setting slots exchanges (opening_errors.TooManySlots asked) = IsNumber setting slots exchanges asked × (most_slots < asked)
 IsCaused setting slots exchanges opening_errors.Io = HasFailed exchanges
 IsCaused setting slots exchanges (opening_errors.LoadIndex load_errors.Io) = HasBroken setting exchanges
+IsCaused setting slots exchanges (opening_errors.LoadIndex (load_errors.TooManyPacksInMultiIndex actual limit path)) = NamesTooMany setting exchanges actual limit path
 IsCaused setting slots exchanges (opening_errors.LoadIndex error) = ⊥
 IsCaused setting slots exchanges opening_errors.NoMemory = ⊥

@@ -14,6 +14,8 @@ use Rattle.gix_odb_events.specs.declared.answer.Answer.TheVariants as told
 use Rattle.gix_odb_events.specs.declared.answer.Ask.{Ask}
 use Rattle.gix_odb_events.specs.declared.answer.Ask.TheVariants as asks
 use Rattle.gix_odb_search.specs.ListOrder as lists
+use Rattle.gix_odb_search.specs.ListedStore.{ListedStore}
+use Rattle.gix_odb_search.specs.MultiPack.{most_packs}
 use Rattle.gix_odb_search.specs.declared.lister.ListStep.{ListStep}
 use Rattle.gix_odb_search.specs.declared.lister.ListStep.TheVariants as listed
 use Rattle.gix_odb_calls.specs.declared.call.Reply.{Reply}
@@ -98,11 +100,13 @@ abbrev pub listed_on : (percent minimum : ℕ) → ListStep → OpenStage
 listed_on percent minimum (listed.More lister) = opens.Listing lister percent minimum
 listed_on percent minimum (listed.Listed listing) = numbered (slots_for percent minimum (length listing.rows))
 listed_on percent minimum listed.Broken = refused (opening_errors.LoadIndex load_errors.Io)
+listed_on percent minimum (listed.TooManyPacks actual path) =
+    refused (opening_errors.LoadIndex (load_errors.TooManyPacksInMultiIndex actual most_packs path))
 
 -- An opening after the answer to what it asked for, in a store of these folders that is to have these slots. One whose handle was
 -- registered has opened its store. What is fed answers the ask: the last row only makes the function total.
-abbrev pub fed : (objects : Path) → (folders : List Path) → Slots → OpenStage → Answer → OpenStage
-fed objects folders slots opens.Looking (told.Disk answer) = looked objects slots answer
-fed objects folders slots (opens.Listing lister percent minimum) (told.Disk answer) = listed_on percent minimum (lists.fed folders lister answer)
-fed objects folders slots (opens.Registering number) (told.Core answer) = opens.Done (replies.Opened number)
-fed objects folders slots state answer = state
+abbrev pub fed : (objects : Path) → ListedStore → Slots → OpenStage → Answer → OpenStage
+fed objects store slots opens.Looking (told.Disk answer) = looked objects slots answer
+fed objects store slots (opens.Listing lister percent minimum) (told.Disk answer) = listed_on percent minimum (lists.fed store lister answer)
+fed objects store slots (opens.Registering number) (told.Core answer) = opens.Done (replies.Opened number)
+fed objects store slots state answer = state

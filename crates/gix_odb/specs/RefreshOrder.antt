@@ -6,10 +6,11 @@
 --                                  one that was never read                    the folders are listed, after the list of that number
 --   the calls of the listing       of its last one, all folders are listed    the listing is published
 --                                  a call fails, or a folder is no directory  Refused
+--                                  a multi-pack index names too many packs    Refused
 --   the listing is published       it is the core's list, or what it is now   Current: its own, or the same as before
 --                                  another list was published since           Outdated
 --   a read or a publish            the core refuses                           Refused
-use Rattle.std.specs.Prelude.{ℕ, true, false, List, Option, Some, None, Ok, Err, if◌then◌else◌}
+use Rattle.std.specs.Prelude.{ℕ, true, false, Option, Some, None, Ok, Err, if◌then◌else◌}
 use Rattle.odb_base.specs.Path.{Path}
 use Rattle.gix_odb_events.specs.Answers.{view_in}
 use Rattle.gix_odb_events.specs.declared.event.Effect.{Effect}
@@ -18,6 +19,8 @@ use Rattle.gix_odb_events.specs.declared.event.Event.TheVariants as events
 use Rattle.gix_odb_events.specs.declared.view.View.{View}
 use Rattle.gix_odb_events.specs.declared.listing.Listing.{Listing}
 use Rattle.gix_odb_search.specs.ListOrder as lists
+use Rattle.gix_odb_search.specs.ListedStore.{ListedStore}
+use Rattle.gix_odb_search.specs.MultiPack.{most_packs}
 use Rattle.gix_odb_events.specs.declared.answer.Answer.{Answer}
 use Rattle.gix_odb_events.specs.declared.answer.Answer.TheVariants as told
 use Rattle.gix_odb_events.specs.declared.answer.Ask.{Ask}
@@ -70,6 +73,7 @@ abbrev pub by_listed : ListStep → RefreshStep
 by_listed (listed.More lister) = steps.More (stages.Listing lister)
 by_listed (listed.Listed listing) = steps.More (stages.Publishing listing)
 by_listed listed.Broken = steps.Refused load_errors.Io
+by_listed (listed.TooManyPacks actual path) = steps.Refused (load_errors.TooManyPacksInMultiIndex actual most_packs path)
 
 -- the listing is the list, or the list is as listed, or another was published since the core was read
 abbrev pub by_published : Listing → Effect → RefreshStep
@@ -79,13 +83,13 @@ by_published listing (effects.Outdated list_no) = steps.Outdated list_no
 by_published listing effect = steps.More (stages.Publishing listing)
 
 -- what is fed answers the ask: the rows that leave the refresh unchanged, here and above, only make the functions total
-abbrev pub fed : (objects : Path) → (folders : List Path) → Refresh → Answer → RefreshStep
-fed objects folders stages.Reading (told.Core (Ok effect)) = by_look objects (view_shown effect)
-fed objects folders stages.Reading (told.Core (Err refusal)) = steps.Refused (of_refusal refusal)
-fed objects folders (stages.Listing lister) (told.Disk answer) = by_listed (lists.fed folders lister answer)
-fed objects folders (stages.Publishing listing) (told.Core (Ok effect)) = by_published listing effect
-fed objects folders (stages.Publishing listing) (told.Core (Err refusal)) = steps.Refused (of_refusal refusal)
-fed objects folders refresh answer = steps.More refresh
+abbrev pub fed : (objects : Path) → ListedStore → Refresh → Answer → RefreshStep
+fed objects store stages.Reading (told.Core (Ok effect)) = by_look objects (view_shown effect)
+fed objects store stages.Reading (told.Core (Err refusal)) = steps.Refused (of_refusal refusal)
+fed objects store (stages.Listing lister) (told.Disk answer) = by_listed (lists.fed store lister answer)
+fed objects store (stages.Publishing listing) (told.Core (Ok effect)) = by_published listing effect
+fed objects store (stages.Publishing listing) (told.Core (Err refusal)) = steps.Refused (of_refusal refusal)
+fed objects store refresh answer = steps.More refresh
 
 -- ---- before a write
 
@@ -106,6 +110,6 @@ asked_of (steps.More refresh) = Some (ask_of refresh)
 asked_of step = None
 
 -- a step after the answer to what it asked for; one that has ended stays as it is
-abbrev pub step_fed : (objects : Path) → (folders : List Path) → RefreshStep → Answer → RefreshStep
-step_fed objects folders (steps.More refresh) answer = fed objects folders refresh answer
-step_fed objects folders step answer = step
+abbrev pub step_fed : (objects : Path) → ListedStore → RefreshStep → Answer → RefreshStep
+step_fed objects store (steps.More refresh) answer = fed objects store refresh answer
+step_fed objects store step answer = step

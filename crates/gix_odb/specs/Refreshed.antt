@@ -10,9 +10,9 @@ use Rattle.gix_odb_events.specs.declared.answer.Answer.TheVariants as told
 use Rattle.gix_odb_events.specs.declared.answer.Ask.TheVariants as asks
 use Rattle.gix_odb_calls.specs.declared.load_index.Error.{Error}
 use Rattle.gix_odb_calls.specs.declared.load_index.Error.TheVariants as errors
-use Rattle.gix_odb.specs.ListingCaused.{IsNoFolder, IsRefused}
+use Rattle.gix_odb.specs.ListingCaused.{IsNoFolder, IsRefused, NamesTooMany}
 use Rattle.gix_odb.specs.Exchange.{Exchange, HasFailed, WasTold}
-use Rattle.gix_odb.specs.Store.{Setting}
+use Rattle.gix_odb.specs.Store.{Setting, listed_for}
 use Rattle.gix_odb.specs.Asked as any
 use Rattle.gix_odb.specs.RefreshOrder.{asked_of, step_fed}
 use Rattle.gix_odb.specs.declared.refresh.RefreshStep.{RefreshStep}
@@ -20,14 +20,14 @@ use Rattle.gix_odb.specs.declared.refresh.RefreshStep.{RefreshStep}
 -- ---- exchanges
 
 abbrev pub behind : Setting → RefreshStep → List Exchange → RefreshStep
-behind setting step exchanges = any.behind asked_of (step_fed setting.parts.objects setting.parts.folders) step exchanges
+behind setting step exchanges = any.behind asked_of (step_fed setting.parts.objects (listed_for setting.parts)) step exchanges
 
 abbrev pub AreAsked : Setting → RefreshStep → List Exchange → Type 0
-AreAsked setting step exchanges = any.AreAsked asked_of (step_fed setting.parts.objects setting.parts.folders) step exchanges
+AreAsked setting step exchanges = any.AreAsked asked_of (step_fed setting.parts.objects (listed_for setting.parts)) step exchanges
 
 -- how many of the exchanges a refresh asked for: those after which it has ended are another's
 abbrev pub turns_of : Setting → RefreshStep → List Exchange → ℕ
-turns_of setting step exchanges = any.turns_of asked_of (step_fed setting.parts.objects setting.parts.folders) step exchanges
+turns_of setting step exchanges = any.turns_of asked_of (step_fed setting.parts.objects (listed_for setting.parts)) step exchanges
 
 -- ---- causes
 
@@ -40,6 +40,7 @@ abbrev pub IsCaused : Setting → List Exchange → Error → Type 0
 IsCaused setting exchanges errors.Io = HasBroken setting exchanges
 IsCaused setting exchanges (errors.InsufficientSlots current needed) = IsRefused exchanges (refusals.InsufficientSlots current needed)
 IsCaused setting exchanges errors.GenerationOverflow = IsRefused exchanges refusals.GenerationOverflow
+IsCaused setting exchanges (errors.TooManyPacksInMultiIndex actual limit path) = NamesTooMany setting exchanges actual limit path
 IsCaused setting exchanges (errors.Unsettled begun own now) = ⊥
 IsCaused setting exchanges errors.NoMemory = IsRefused exchanges refusals.NoMemory
 

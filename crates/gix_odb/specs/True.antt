@@ -16,16 +16,22 @@ use Rattle.gix_odb.specs.LookUpOrder.{Setting, view_of}
 use Rattle.gix_odb.specs.Shown.{IsShownView}
 pub use Rattle.gix_odb.specs.Suited.{IsRefusal, Suits}
 
--- Here `Shown path bytes` says that a file with these bytes was shown at this path since the store was opened.
-module _ (Shown : Path → List ℕ → Type 0) (setting : Setting) (hash : Kind) where
-  -- a file that was read was shown
-  abbrev ShowsRead : DiskAsk → DiskAnswer → Type 0
-  ShowsRead (disk_asks.Read path) (disk_answers.File bytes time) = Shown path bytes
-  ShowsRead ask answer = Unit {0}
+-- Here `Shown path time bytes` says that a file with these bytes and this time was shown at this path since the store was opened.
 
+-- a file that was read was shown
+abbrev pub ShowsRead : (Shown : Path → ℕ → List ℕ → Type 0) → DiskAsk → DiskAnswer → Type 0
+ShowsRead Shown (disk_asks.Read path) (disk_answers.File bytes time) = Shown path time bytes
+ShowsRead Shown ask answer = Unit {0}
+
+-- and so was what an exchange read
+abbrev pub IsReadShown : (Shown : Path → ℕ → List ℕ → Type 0) → Ask → Answer → Type 0
+IsReadShown Shown (asks.Disk ask) (told.Disk answer) = ShowsRead Shown ask answer
+IsReadShown Shown ask answer = Unit {0}
+
+module _ (Shown : Path → ℕ → List ℕ → Type 0) (setting : Setting) (hash : Kind) where
   -- an exchange is true, which no answer of another kind than its ask is
   abbrev pub IsTrue : Ask → Answer → Type 0
-  IsTrue (asks.Disk ask) (told.Disk answer) = Suits ask answer × ShowsRead ask answer
+  IsTrue (asks.Disk ask) (told.Disk answer) = Suits ask answer × ShowsRead Shown ask answer
   IsTrue (asks.Core event) (told.Core answer) = (view : View) → view_of (told.Core answer) ≡ Some view → IsShownView Shown setting hash view
   IsTrue (asks.NewCore slots folders) (told.Core answer) = (view : View) → view_of (told.Core answer) ≡ Some view → IsShownView Shown setting hash view
   IsTrue ask answer = IsAnswerTo ask answer

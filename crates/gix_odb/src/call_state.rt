@@ -163,7 +163,7 @@ impl CallStage {
             },
             CallStage::Refreshing { .. } => Ok(None),
             CallStage::Writing(call) => write_reply(alloc, call),
-            CallStage::Refused(error) => Ok(Some(unlisted(*error))),
+            CallStage::Refused(error) => Ok(Some(unlisted(error.try_clone(alloc)?))),
         }
     }
 
@@ -252,7 +252,7 @@ fn refreshed_on(
     requires suits { IsAnswerTo (refreshes.ask_of refresh) answer }
     ensures fed { IfOk result (λ stage. stage ≡ calls.fed (setting_at handle.now) (CallStage.Refreshing refresh write) answer) }
 {
-    match refresh.feed(alloc, handle.parts(), answer) {
+    match refresh.feed(alloc, handle.parts(), &handle.view.snapshot.indices, answer) {
         Ok(step) => Ok(fronted(step, write)),
         Err(error) => {
             drop(write);
@@ -269,6 +269,7 @@ fn setting_of(handle: &HandleState) -> Setting<'_>
     Setting {
         parts,
         max_changes: handle.max_changes,
+        loaded: &handle.view.snapshot.indices,
     }
 }
 

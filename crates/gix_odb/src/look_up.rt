@@ -20,7 +20,7 @@ use gix_hash::ObjectId;
 use gix_object::Want;
 use gix_odb_calls::verdict::FolderCall;
 use gix_odb_calls::{Reply, StoreParts};
-use gix_odb_events::{Answer, Ask, Event, View};
+use gix_odb_events::{Answer, Ask, Event, LoadedList, View};
 use gix_odb_search::{Notes, Trier};
 use odb_base::{NoMemory, PathText};
 use std::alloc::Global;
@@ -30,6 +30,8 @@ use std::alloc::Global;
 pub struct Setting<'a> {
     pub parts: &'a StoreParts,
     pub max_changes: u32,
+    /// The indices that the handle's snapshot shows loaded.
+    pub loaded: &'a LoadedList,
 }
 
 /// The state of a look-up on a handle.

@@ -8,9 +8,11 @@ ghost use Rattle.gix_odb.specs.Answers.{IsDiskAsk};
 ghost use Rattle.gix_odb.specs.OpenOrder.{IsAskOf, ask_of, opened_in, result_of};
 ghost use Rattle.gix_odb.specs.OpenOrder as order;
 ghost use Rattle.gix_odb.specs.OpenState.{at_stage, ends_with, opened_handle};
+ghost use Rattle.gix_odb.specs.Store.{listed_for};
 
 use crate::ask::OpenAsk;
 use crate::handle_state::HandleState;
+use crate::refresh::{listed_for, too_many};
 use gix_hash::ObjectId;
 use gix_odb_calls::{
     CallError, Options, PathList, Replacements, Reply, Slots, StoreParts, init, load_index,
@@ -79,6 +81,7 @@ impl OpenState {
             folders: list_of(alloc, folders)?,
             object_hash: hash,
             replacements: Replacements::from_pairs(alloc, replacements)?,
+            use_multi_pack_index: options.use_multi_pack_index,
             alloc_limit_bytes: options.alloc_limit_bytes,
             slots: options.slots,
         };
@@ -127,7 +130,7 @@ impl OpenState {
     /// Takes the answer to the call of the disk that the opening asked for. Where memory runs out the opening is refused.
     pub fn feed(&mut self, alloc: Global, answer: DiskAnswer) -> Result<(), NoMemory>
         requires asks { IsDiskAsk (ask_of self.old.info.value.objects self.old.info.value.folders self.old.stage) }
-        ensures fed { OnOk result (self.new ≡ at_stage self.old (order.fed self.old.info.value.objects self.old.info.value.folders self.old.info.value.slots self.old.stage (told.Disk answer))) }
+        ensures fed { OnOk result (self.new ≡ at_stage self.old (order.fed self.old.info.value.objects (listed_for self.old.info.value) self.old.info.value.slots self.old.stage (told.Disk answer))) }
         ensures refused { OnErr result (self.new ≡ at_stage self.old (order.refused opening_errors.NoMemory)) }
     {
         let stage = replace(&mut self.stage, refused(init::Error::NoMemory));
@@ -214,7 +217,7 @@ fn by_disk(
     answer: DiskAnswer,
 ) -> Result<OpenStage, NoMemory>
     requires asks { IsDiskAsk (ask_of parts.now.objects parts.now.folders state) }
-    ensures fed { IfOk result (λ next. next ≡ order.fed parts.now.objects parts.now.folders parts.now.slots state (told.Disk answer)) }
+    ensures fed { IfOk result (λ next. next ≡ order.fed parts.now.objects (listed_for parts.now) parts.now.slots state (told.Disk answer)) }
 {
     match state {
         OpenStage::Looking => after_look(alloc, parts, &answer),
@@ -223,7 +226,8 @@ fn by_disk(
             percent,
             minimum,
         } => {
-            let step = lister.feed(alloc, parts.folders.as_slice(), answer)?;
+            let store = listed_for(parts, None);
+            let step = lister.feed(alloc, &store, answer)?;
             Ok(listed_on(percent, minimum, step))
         }
         _ => unreachable!("such an opening has no call of the disk"),
@@ -277,6 +281,9 @@ fn listed_on(percent: u32, minimum: u32, step: ListStep) -> OpenStage
         },
         ListStep::Listed(listing) => numbered(slots_for(percent, minimum, listing.rows.len())),
         ListStep::Broken => refused(init::Error::LoadIndex(load_index::Error::Io)),
+        ListStep::TooManyPacks { actual, path } => {
+            refused(init::Error::LoadIndex(too_many(actual, path)))
+        }
     }
 }
 

@@ -1,6 +1,6 @@
 //! The order of work of a refresh: the store's core is read, and where its list was never read, the folders of packs are
 //! listed, and the listing is published.
-ghost use Rattle.std.specs.Prelude.{◌≡◌, List, IfOk, Err, Ok, Some};
+ghost use Rattle.std.specs.Prelude.{◌≡◌, IfOk, Err, Ok, Some};
 ghost use Rattle.std.specs.Option.{option_map};
 ghost use Rattle.odb_base.specs.Path.{Path};
 ghost use Rattle.gix_odb_events.specs.Asks.{IsAnswerTo};
@@ -8,11 +8,15 @@ ghost use Rattle.gix_odb_events.specs.declared.answer.Answer.TheVariants as told
 ghost use Rattle.gix_odb_events.specs.declared.view.View as views;
 ghost use Rattle.gix_odb.specs.RefreshOrder.{ask_of, opened_in, view_shown};
 ghost use Rattle.gix_odb.specs.RefreshOrder as order;
+ghost use Rattle.gix_odb_calls.specs.declared.load_index.Error.TheVariants as load_errors;
+ghost use Rattle.gix_odb_search.specs.ListedStore.{ListedStore as ListedStoreValue, listed_store};
+ghost use Rattle.gix_odb_search.specs.MultiPack.{most_packs};
+ghost use Rattle.gix_odb.specs.Store.{listed_for};
 
 use crate::refusals::of_refusal;
 use gix_odb_calls::{StoreParts, load_index};
-use gix_odb_events::{Answer, Ask, Effect, Event, Listing, Refusal, View};
-use gix_odb_search::{ListStep, Lister};
+use gix_odb_events::{Answer, Ask, Effect, Event, Listing, LoadedList, Refusal, View};
+use gix_odb_search::{ListStep, ListedStore, Lister, MOST_PACKS, MultiUse};
 use odb_base::{NoMemory, PathText};
 use odb_disk::DiskAnswer;
 use std::alloc::Global;
@@ -77,18 +81,19 @@ impl Refresh {
         }
     }
 
-    /// Returns the step after the answer to what was asked for, in a store of these parts.
+    /// Returns the step after the answer to what was asked for, in a store of these parts. A multi-pack index that is loaded isn't parsed again.
     pub fn feed(
         self,
         alloc: Global,
         parts: &StoreParts,
+        loaded: &LoadedList,
         answer: Answer,
     ) -> Result<RefreshStep, NoMemory>
         requires suits { IsAnswerTo (ask_of self) answer }
-        ensures fed { IfOk result (λ step. step ≡ order.fed parts.now.objects parts.now.folders self answer) }
+        ensures fed { IfOk result (λ step. step ≡ order.fed parts.now.objects (listed_for parts.now) self answer) }
     {
         match answer {
-            Answer::Disk(answer) => by_disk(alloc, parts, self, answer),
+            Answer::Disk(answer) => by_disk(alloc, parts, loaded, self, answer),
             Answer::Core(Ok(effect)) => by_effect(alloc, parts, self, effect),
             Answer::Core(Err(Refusal::NoMemory)) => Err(NoMemory),
             Answer::Core(Err(refusal)) => Ok(by_refusal(self, refusal)),
@@ -96,19 +101,43 @@ impl Refresh {
     }
 }
 
+/// Returns what a listing is told of a store, and of its loaded indices.
+pub(crate) fn listed_for<'a>(
+    parts: &'a StoreParts,
+    loaded: Option<&'a LoadedList>,
+) -> ListedStore<'a>
+    ensures store { listed_store result ≡ listed_for parts.now }
+{
+    let multi = if parts.use_multi_pack_index {
+        Some(MultiUse {
+            hash: parts.object_hash,
+            limit: parts.alloc_limit_bytes,
+        })
+    } else {
+        None
+    };
+    ListedStore {
+        folders: parts.folders.as_slice(),
+        multi,
+        loaded,
+    }
+}
+
 /// Returns the step after an answer of the disk.
 fn by_disk(
     alloc: Global,
     parts: &StoreParts,
+    loaded: &LoadedList,
     refresh: Refresh,
     answer: DiskAnswer,
 ) -> Result<RefreshStep, NoMemory>
     requires suits { IsAnswerTo (ask_of refresh) (told.Disk answer) }
-    ensures fed { IfOk result (λ step. step ≡ order.fed parts.now.objects parts.now.folders refresh (told.Disk answer)) }
+    ensures fed { IfOk result (λ step. step ≡ order.fed parts.now.objects (listed_for parts.now) refresh (told.Disk answer)) }
 {
     match refresh {
         Refresh::Listing(lister) => {
-            let step = lister.feed(alloc, parts.folders.as_slice(), answer)?;
+            let store = listed_for(parts, Some(loaded));
+            let step = lister.feed(alloc, &store, answer)?;
             Ok(by_listed(step))
         }
         _ => unreachable!("only the listing makes calls of the disk"),
@@ -123,6 +152,18 @@ fn by_listed(step: ListStep) -> RefreshStep
         ListStep::More(lister) => RefreshStep::More(Refresh::Listing(lister)),
         ListStep::Listed(listing) => RefreshStep::More(Refresh::Publishing(listing)),
         ListStep::Broken => RefreshStep::Refused(load_index::Error::Io),
+        ListStep::TooManyPacks { actual, path } => RefreshStep::Refused(too_many(actual, path)),
+    }
+}
+
+/// Returns the error of a multi-pack index that names more packs than a store may use.
+pub(crate) fn too_many(actual: u32, path: PathText) -> load_index::Error
+    ensures error { result ≡ load_errors.TooManyPacksInMultiIndex actual most_packs path }
+{
+    load_index::Error::TooManyPacksInMultiIndex {
+        actual,
+        limit: MOST_PACKS,
+        index_path: path,
     }
 }
 
@@ -134,7 +175,7 @@ fn by_effect(
     effect: Effect,
 ) -> Result<RefreshStep, NoMemory>
     requires suits { IsAnswerTo (ask_of refresh) (told.Core (Ok effect)) }
-    ensures fed { IfOk result (λ step. step ≡ order.fed parts.now.objects parts.now.folders refresh (told.Core (Ok effect))) }
+    ensures fed { IfOk result (λ step. step ≡ order.fed parts.now.objects (listed_for parts.now) refresh (told.Core (Ok effect))) }
 {
     match refresh {
         Refresh::Reading => by_look(alloc, parts, shown_by(effect)),
@@ -192,7 +233,7 @@ fn by_published(listing: Listing, effect: Effect) -> RefreshStep
 /// Returns the step after an event was refused.
 fn by_refusal(refresh: Refresh, refusal: Refusal) -> RefreshStep
     requires suits { IsAnswerTo (ask_of refresh) (told.Core (Err refusal)) }
-    ensures fed { (objects : Path) → (folders : List Path) → result ≡ order.fed objects folders refresh (told.Core (Err refusal)) }
+    ensures fed { (objects : Path) → (store : ListedStoreValue) → result ≡ order.fed objects store refresh (told.Core (Err refusal)) }
 {
     match refresh {
         Refresh::Reading | Refresh::Publishing(_) => RefreshStep::Refused(of_refusal(refusal)),

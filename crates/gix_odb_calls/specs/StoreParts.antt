@@ -14,6 +14,7 @@ parts_of_store objects folders hash replacements options = record {
   folders = folders;
   object_hash = hash;
   replacements = from_entries replacements;
+  use_multi_pack_index = options.use_multi_pack_index;
   alloc_limit_bytes = options.alloc_limit_bytes;
   slots = options.slots;
 }

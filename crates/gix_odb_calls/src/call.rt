@@ -135,7 +135,7 @@ impl CallError {
         ensures copied { IfOk result (λ copy. copy ≡ self.now) }
     {
         match self {
-            CallError::Open(error) => Ok(CallError::Open(*error)),
+            CallError::Open(error) => Ok(CallError::Open(error.try_clone(alloc)?)),
             CallError::Find(error) => Ok(CallError::Find(error.try_clone(alloc)?)),
             CallError::Write(error) => Ok(CallError::Write(error.try_clone(alloc)?)),
         }

@@ -52,7 +52,7 @@ impl Error {
         match self {
             Error::Loose(error) => Ok(Error::Loose(error.try_clone(alloc)?)),
             Error::Pack => Ok(Error::Pack),
-            Error::LoadIndex(error) => Ok(Error::LoadIndex(*error)),
+            Error::LoadIndex(error) => Ok(Error::LoadIndex(error.try_clone(alloc)?)),
             Error::LoadPack => Ok(Error::LoadPack),
             Error::EntryType { code } => Ok(Error::EntryType { code: *code }),
             Error::DeltaEntry => Ok(Error::DeltaEntry),

@@ -38,7 +38,9 @@ impl Default for Slots {
 #[derive(Clone, Copy)]
 pub struct Options {
     pub slots: Slots,
-    /// The largest size in bytes of an object's data that a find allows, if there is a limit.
+    /// Whether the multi-pack indices of the folders are used.
+    pub use_multi_pack_index: bool,
+    /// The most bytes of an object's data that a find allows, and of a multi-pack index that is used, if there is a limit.
     pub alloc_limit_bytes: Option<u64>,
     /// The most changes of the list of indices that a call tolerates: at most 1,000,000.
     pub max_changes: u32,
@@ -50,6 +52,7 @@ impl Default for Options {
     {
         Options {
             slots: Slots::default(),
+            use_multi_pack_index: true,
             alloc_limit_bytes: None,
             max_changes: 16,
         }
@@ -57,7 +60,7 @@ impl Default for Options {
 }
 
 /// Why an opening was refused.
-#[derive(Clone, Copy, Debug, Error)]
+#[derive(Debug, Drop, Error)]
 pub enum Error {
     /// The objects directory is no directory, links followed.
     #[error("the objects directory is not a directory")]
@@ -73,6 +76,21 @@ pub enum Error {
     LoadIndex(load_index::Error),
     #[error("out of memory")]
     NoMemory,
+}
+
+impl Error {
+    /// A copy of the error.
+    pub fn try_clone(&self, alloc: Global) -> Result<Error, NoMemory>
+        ensures copied { IfOk result (λ copy. copy ≡ self.now) }
+    {
+        match self {
+            Error::NotADirectory => Ok(Error::NotADirectory),
+            Error::TooManySlots { asked } => Ok(Error::TooManySlots { asked: *asked }),
+            Error::Io => Ok(Error::Io),
+            Error::LoadIndex(error) => Ok(Error::LoadIndex(error.try_clone(alloc)?)),
+            Error::NoMemory => Ok(Error::NoMemory),
+        }
+    }
 }
 
 /// A copy of a list of paths.

@@ -14,7 +14,9 @@ pub struct StoreParts {
     pub object_hash: gix_hash::Kind,
     /// The ids that are sought in the place of others.
     pub replacements: Replacements,
-    /// The largest size in bytes of an object's data that a find allows, if there is a limit.
+    /// Whether the multi-pack indices of the folders are used.
+    pub use_multi_pack_index: bool,
+    /// The most bytes of an object's data that a find allows, and of a multi-pack index that is used, if there is a limit.
     pub alloc_limit_bytes: Option<u64>,
     pub slots: Slots,
 }

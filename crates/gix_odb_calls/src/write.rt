@@ -26,7 +26,7 @@ impl Error {
     {
         match self {
             Error::LooseWrite(error) => Ok(Error::LooseWrite(error.try_clone(alloc)?)),
-            Error::LoadIndex(error) => Ok(Error::LoadIndex(*error)),
+            Error::LoadIndex(error) => Ok(Error::LoadIndex(error.try_clone(alloc)?)),
             Error::NoMemory => Ok(Error::NoMemory),
         }
     }

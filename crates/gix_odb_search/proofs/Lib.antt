@@ -10,6 +10,7 @@ mod MultiSpotLemmas
 mod LongestFirstLemmas
 mod FirstsLemmas
 mod IndexPathsLemmas
+mod MultiPackLemmas
 mod PackAmongLemmas
 pub mod LoadLaws
 pub mod TrierLaws
@@ -17,3 +18,6 @@ pub mod ReachLemmas
 pub mod ReachLaws
 pub mod NotedLaws
 pub mod TryTurnLaws
+pub mod MultiReadLaws
+pub mod UnnamedLaws
+pub mod MultiRowLaws

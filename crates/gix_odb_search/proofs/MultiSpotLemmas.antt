@@ -1,8 +1,8 @@
 -- Where a multi-pack index says that an object is.
-use Rattle.std.proofs.Common.{◌≡◌, ℕ, Bool, true, false, cond, List, map, slice_get, Contains, Option, Some, None, option_map, refl, sym, ap, ◌∙◌}
+use Rattle.std.proofs.Common.{◌≡◌, ℕ, Bool, true, false, cond, List, length, map, slice_get, Contains, Option, Some, None, option_map, refl, sym, ap, ◌∙◌}
 use Rattle.std.specs.Prelude.{option_and_then}
 use Rattle.std.proofs.lemmas.Bool.{and_parts}
-use Rattle.std.proofs.lemmas.Option.{same_Some, slice_get-map}
+use Rattle.std.proofs.lemmas.Option.{same_Some, slice_get-map, slice_get_read}
 use Rattle.gix_hash.specs.declared.kind.Kind.{Kind}
 use Rattle.gix_hash.specs.declared.object_id.ObjectId.{ObjectId}
 use Rattle.gix_pack_read.specs.MultiIndex.{MultiIndex, Parts, are_parts, multi_index_from, multi_index_of, objects_in, offset_row_len, offset_rows, pack_row, part_ids, parts_of, rows_of, told}
@@ -17,16 +17,16 @@ use Rattle.gix_odb_search.proofs.SpotLemmas.{first_parts, found, missing}
 abbrev id_seen : PackRow → ObjectId
 id_seen row = row.id
 
-abbrev spot_of : PackRow → Spot
+abbrev pub spot_of : PackRow → Spot
 spot_of row = record { place = row.pack; offset = row.offset }
 
 -- ---- the ids of a parsed index rise
 
-if_some : {X : Type 0} (b : Bool) (o : Option X) (x : X) → cond b o None ≡ Some x → o ≡ Some x
+pub if_some : {X : Type 0} (b : Bool) (o : Option X) (x : X) → cond b o None ≡ Some x → o ≡ Some x
 if_some true o x h = h
 if_some false o x h = cc h
 
-then_some : {X : Type 0} (b : Bool) (y x : X) → cond b (Some y) None ≡ Some x → (b ≡ true) × (y ≡ x)
+pub then_some : {X : Type 0} (b : Bool) (y x : X) → cond b (Some y) None ≡ Some x → (b ≡ true) × (y ≡ x)
 then_some true y x h = (refl, same_Some y x h)
 then_some false y x h = cc h
 
@@ -66,6 +66,14 @@ by_parts (Some row) id pack offset own its at =
     ap (λ (x : ObjectId). Some (record { id = x; pack = row.pack; offset = row.offset })) same_id
     ∙ ap (λ (x : ℕ). Some (record { id = id; pack = x; offset = row.offset })) same_pack
     ∙ ap (λ (x : ℕ). Some (record { id = id; pack = pack; offset = x })) same_offset
+
+-- a row that has the id says where the object is
+pub row_spot : (bytes : List ℕ) (id : ObjectId) (row : PackRow) → multi_index_of bytes ≡ Some (told bytes) → Contains (told bytes).rows row → row.id ≡ id
+    → in_multi bytes id ≡ Some (spot_of row)
+row_spot bytes id row whole (n, within, is) own =
+    let rows = (told bytes).rows in
+    ap (option_map spot_of)
+    (found id_seen id rows n row (rises bytes (told bytes) whole) (slice_get_read rows (length rows) n row refl within (sym is)) own)
 
 pub multi_missing : (bytes : List ℕ) (id : ObjectId) → ¬ (Contains (map (λ (row : PackRow). row.id) (told bytes).rows) id) → None ≡ in_multi bytes id
 multi_missing bytes id without = sym (ap (option_map spot_of) (missing id_seen id (told bytes).rows without))

@@ -1,11 +1,10 @@
 -- The pack of a path among those of an index, by the place of the first pack that has this path.
-use Rattle.std.proofs.Common.{◌≡◌, ℕ, zero, suc, Bool, true, false, cond, ◌||◌, List, [], ◌∷◌, take, Option, Some, None, refl, sym, ap, ◌∙◌}
+use Rattle.std.proofs.Common.{◌≡◌, ℕ, zero, suc, Bool, true, false, cond, List, [], ◌∷◌, take, None, refl, ap, ◌∙◌}
 use Rattle.std.specs.List.{list_any, slice_get}
 use Rattle.std.specs.Option.{option_and_then}
 use Rattle.std.proofs.lemmas.Bool.{or_parts}
-use Rattle.gix_pack_read.specs.FileBytes.{FileBytes}
 use Rattle.gix_odb_events.specs.OnDiskFile.{loaded}
-use Rattle.gix_odb_events.specs.PackFiles.{PackFile, same_path}
+use Rattle.gix_odb_events.specs.PackFiles.{PackFile}
 use Rattle.gix_odb_events.specs.PackList.{HasFirst, has_path, has_path_at}
 use Rattle.gix_odb_search.specs.TryOrder.Pack.{pack_among}
 use Rattle.gix_odb_search.specs.declared.search.WantedPack.{WantedPack}

@@ -1,13 +1,11 @@
--- An index that gives an id an offset in its one pack, among indices that are tried: no try ends with a miss while that index is pending or loading.
-use Rattle.std.proofs.Common.{◌≡◌, ◌⊎◌, inl, inr, List, [], ◌∷◌, Contains, Option, Some, None, Ok, refl, sym, ap, ◌∙◌, subst}
+-- An index that gives an id an offset in a pack, among indices that are tried: no try ends with a miss while that index is pending or loading.
+use Rattle.std.proofs.Common.{◌≡◌, ◌⊎◌, inl, inr, List, [], ◌∷◌, Contains, Option, Some, None, Ok, refl, sym, subst}
 use Rattle.std.specs.List.{All, find}
 use Rattle.std.proofs.lemmas.Bool.{and_parts}
-use Rattle.std.proofs.lemmas.List.Elements.{All-head, All-tail}
 use Rattle.odb_base.specs.Path.{Path}
 use Rattle.gix_hash.specs.declared.kind.Kind.{Kind}
 use Rattle.gix_hash.specs.declared.object_id.ObjectId.{ObjectId}
 use Rattle.gix_pack_read.specs.FileBytes.{FileBytes}
-use Rattle.gix_odb_events.specs.PackPath.{pack_path}
 use Rattle.gix_odb_events.specs.PackFiles.{same_path}
 use Rattle.gix_odb_events.proofs.SamePathLaws.{same_path-true}
 use Rattle.gix_odb_events.specs.declared.loaded.SnapshotIndex.{SnapshotIndex}
@@ -35,47 +33,47 @@ use Rattle.gix_odb_search.specs.declared.trier.Tried.TheVariants as ends
 use Rattle.gix_odb_search.specs.declared.trier.Trier.{Trier}
 use Rattle.gix_odb_search.proofs.ReachLemmas.{IsPresent, Leads, Reaches, first_or_later, found_is, none_in, present-noted, reaches-index}
 
-module _ (hash : Kind) (id : ObjectId) (target : Path) where
-  -- an index at the path gives the id an offset in the pack of the same name
+-- Here `IsTarget path` says that an index at this path, where it is loaded, gives the id an offset in the pack.
+module _ (hash : Kind) (id : ObjectId) (pack : Path) (IsTarget : Path → Type 0) where
+  -- an index gives the id an offset in the pack, if its path is a target
   abbrev pub LeadsIfThere : SnapshotIndex → Type 0
-  LeadsIfThere index = index.path ≡ target → Leads (pack_path target) hash id index
+  LeadsIfThere index = IsTarget index.path → Leads pack hash id index
 
   -- ---- what is pending
 
   abbrev pub HasIndex : List SnapshotIndex → Type 0
-  HasIndex indices = (index : SnapshotIndex) × Contains indices index × (index.path ≡ target)
+  HasIndex indices = (index : SnapshotIndex) × Contains indices index × Leads pack hash id index
 
   abbrev pub HasTodo : List Todo → Type 0
-  HasTodo todo = (item : Todo) × Contains todo item × (item.path ≡ target)
+  HasTodo todo = (item : Todo) × Contains todo item × IsTarget item.path
 
-  -- the index is among those that are loaded, or still to be loaded
+  -- an index that leads to the pack is among those that are loaded, or one at a target is still to be loaded
   abbrev pub IsAhead : List SnapshotIndex → List Todo → Type 0
   IsAhead indices todo = HasIndex indices ⊎ HasTodo todo
 
-  -- an index at the path leads on, and its pack was never noted as absent
-  pub record IsSearchable (ahead : Ahead) : Type 0 where
-    pub lead : All LeadsIfThere ahead.indices
-    pub present : IsPresent (pack_path target) ahead.notes.absent
+  -- its pack was never noted as absent
+  abbrev pub IsSearchable : Ahead → Type 0
+  IsSearchable ahead = IsPresent pack ahead.notes.absent
 
   -- the index is being loaded
   abbrev pub IsAtHand : IndexLoader → Type 0
-  IsAtHand (Reading at) = at.path ≡ target
-  IsAtHand (Storing at file) = (at.path ≡ target) × Leads (pack_path target) hash id (own_index at file)
+  IsAtHand (Reading at) = IsTarget at.path
+  IsAtHand (Storing at file) = IsTarget at.path × Leads pack hash id (own_index at file)
   IsAtHand (Passing at why) = ⊥
 
   -- a step of loading after which the index is loaded, or still being so
   abbrev pub IsKept : LoadStep → Type 0
   IsKept (steps.More loader) = IsAtHand loader
-  IsKept (steps.Loaded index) = Leads (pack_path target) hash id index
+  IsKept (steps.Loaded index) = Leads pack hash id index
   IsKept (steps.Missed why) = ⊥
   IsKept (steps.Broken refusal) = Unit {0}
 
   -- the index is loading or pending, or its pack is being read
   abbrev pub IsOnWay : Ahead → Stage → Type 0
   IsOnWay ahead (stages.Loading loader) = IsAtHand loader ⊎ HasTodo ahead.todo
-  IsOnWay ahead (stages.ReadingPack wanted) = (wanted.path ≡ pack_path target) ⊎ IsAhead ahead.indices ahead.todo
+  IsOnWay ahead (stages.ReadingPack wanted) = (wanted.path ≡ pack) ⊎ IsAhead ahead.indices ahead.todo
   IsOnWay ahead (stages.StoringPack wanted file) = Unit {0}
-  IsOnWay ahead (stages.PassingPack wanted) = (¬ (wanted.path ≡ pack_path target)) × IsAhead ahead.indices ahead.todo
+  IsOnWay ahead (stages.PassingPack wanted) = (¬ (wanted.path ≡ pack)) × IsAhead ahead.indices ahead.todo
 
   pub record IsTracked (trier : Trier) : Type 0 where
     pub of_id : trier.goal.id ≡ id
@@ -94,23 +92,23 @@ module _ (hash : Kind) (id : ObjectId) (target : Path) where
 
   module _ (at : IndexPlace) where
     abbrev AllLead : Option SnapshotIndex → Type 0
-    AllLead shown = (index : SnapshotIndex) → shown ≡ Some index → Leads (pack_path target) hash id index
+    AllLead shown = (index : SnapshotIndex) → shown ≡ Some index → Leads pack hash id index
 
-    shown_leads : at.path ≡ target → (indices : List SnapshotIndex) → All LeadsIfThere indices → AllLead (find (is_at at) indices)
+    shown_leads : IsTarget at.path → (indices : List SnapshotIndex) → All LeadsIfThere indices → AllLead (find (is_at at) indices)
     shown_leads is indices lead index found =
         let has = found_is LeadsIfThere (is_at at) indices lead index found in
-        has.0 (same_path-true index.path at.path (and_parts _ (same_path index.path at.path) has.1).1 ∙ is)
+        has.0 (subst IsTarget (sym (same_path-true index.path at.path (and_parts _ (same_path index.path at.path) has.1).1)) is)
 
-    either_leads : (file : FileBytes) → Leads (pack_path target) hash id (own_index at file) → (one other : Option SnapshotIndex) → AllLead one
-        → AllLead other → Leads (pack_path target) hash id (shown_or_own at file (or_else one other))
+    either_leads : (file : FileBytes) → Leads pack hash id (own_index at file) → (one other : Option SnapshotIndex) → AllLead one
+        → AllLead other → Leads pack hash id (shown_or_own at file (or_else one other))
     either_leads file leads (Some index) other lead more = lead index refl
     either_leads file leads None (Some index) lead more = more index refl
     either_leads file leads None None lead more = leads
 
     -- what is shown of the index is as sound as what was read
-    view_leads : (file : FileBytes) → at.path ≡ target → Leads (pack_path target) hash id (own_index at file) → (view : Option View)
+    view_leads : (file : FileBytes) → IsTarget at.path → Leads pack hash id (own_index at file) → (view : Option View)
         → ((shown : View) → view ≡ Some shown → All LeadsIfThere shown.snapshot.indices × All LeadsIfThere shown.snapshot.kept)
-        → Leads (pack_path target) hash id (shown_or_own at file (shown_in at view))
+        → Leads pack hash id (shown_or_own at file (shown_in at view))
     view_leads file is leads None sound = leads
     view_leads file is leads (Some view) sound =
         let shown = sound view refl in
@@ -119,24 +117,24 @@ module _ (hash : Kind) (id : ObjectId) (target : Path) where
 
     pub stored_leads : (file : FileBytes) (effect : Effect) → IsAtHand (Storing at file)
         → ((shown : View) → view_in (Ok effect) ≡ Some shown → All LeadsIfThere shown.snapshot.indices × All LeadsIfThere shown.snapshot.kept)
-        → Leads (pack_path target) hash id (index_stored at file effect)
+        → Leads pack hash id (index_stored at file effect)
     stored_leads file effect here sound = view_leads file here.0 here.1 (view_in (Ok effect)) sound
 
   -- ---- the search goes on
 
   first_or_ahead : (index : SnapshotIndex) (rest : List SnapshotIndex) (todo : List Todo) → IsAhead (index ∷ rest) todo
-      → (index.path ≡ target) ⊎ IsAhead rest todo
+      → (Leads pack hash id index) ⊎ IsAhead rest todo
   first_or_ahead index rest todo (inr has) = inr (inr has)
-  first_or_ahead index rest todo (inl (other, among, at)) =
+  first_or_ahead index rest todo (inl (other, among, leads)) =
       elim (first_or_later index rest other among) [
-        | inl is ↦ inl (ap (λ (i : SnapshotIndex). i.path) is ∙ at)
-        | inr more ↦ inr (inl (other, more, at))
+        | inl is ↦ inl (subst (Leads pack hash id) (sym is) leads)
+        | inr more ↦ inr (inl (other, more, leads))
       ]
 
-  first_or_todo : (todo : Todo) (rest : List Todo) → HasTodo (todo ∷ rest) → (todo.path ≡ target) ⊎ HasTodo rest
+  first_or_todo : (todo : Todo) (rest : List Todo) → HasTodo (todo ∷ rest) → IsTarget todo.path ⊎ HasTodo rest
   first_or_todo todo rest (other, among, at) =
       elim (first_or_later todo rest other among) [
-        | inl is ↦ inl (ap (λ (i : Todo). i.path) is ∙ at)
+        | inl is ↦ inl (subst (λ (i : Todo). IsTarget i.path) (sym is) at)
         | inr more ↦ inr (other, more, at)
       ]
 
@@ -144,24 +142,24 @@ module _ (hash : Kind) (id : ObjectId) (target : Path) where
     todo_goes : (ahead : Ahead) → IsSearchable ahead → (todo : List Todo) → HasTodo todo → IsNoMiss (at_todo goal ahead todo)
     todo_goes ahead able [] has = absurd (none_in has.0 has.1)
     todo_goes ahead able (todo ∷ rest) has =
-        record { of_id = own; searchable = record { lead = able.lead; present = able.present }; way = first_or_todo todo rest has }
+        record { of_id = own; searchable = able; way = first_or_todo todo rest has }
 
     -- after a search that reached the pack, or found nothing while the index is still to be loaded
-    search_goes : (ahead : Ahead) → IsSearchable ahead → (search : Sought) → Reaches (pack_path target) search ⊎ HasTodo ahead.todo
+    search_goes : (ahead : Ahead) → IsSearchable ahead → (search : Sought) → Reaches pack search ⊎ HasTodo ahead.todo
         → IsNoMiss (at_search goal ahead search)
     search_goes ahead able Nowhere (inl reaches) = absurd reaches
     search_goes ahead able Nowhere (inr has) = todo_goes ahead able ahead.todo has
     search_goes ahead able (Finds what) way = tt
     search_goes ahead able (Fails error) way = tt
-    search_goes ahead able (Wants pack) (inl is) = record { of_id = own; searchable = able; way = inl is }
-    search_goes ahead able (Wants pack) (inr has) = record { of_id = own; searchable = able; way = inr (inr has) }
+    search_goes ahead able (Wants wanted) (inl is) = record { of_id = own; searchable = able; way = inl is }
+    search_goes ahead able (Wants wanted) (inr has) = record { of_id = own; searchable = able; way = inr (inr has) }
 
-    -- an index at the path ends the search
-    reached : (ahead : Ahead) (index : SnapshotIndex) → IsPresent (pack_path target) ahead.notes.absent → LeadsIfThere index → index.path ≡ target
-        → Reaches (pack_path target) (tried goal ahead.notes.absent index)
-    reached ahead index present leads at =
-        reaches-index (pack_path target) goal ahead.notes.absent present index hash
-        (subst (λ (i : ObjectId). Leads (pack_path target) hash i index) (sym own) (leads at))
+    -- an index that leads to the pack ends the search
+    reached : (ahead : Ahead) (index : SnapshotIndex) → IsSearchable ahead → Leads pack hash id index
+        → Reaches pack (tried goal ahead.notes.absent index)
+    reached ahead index able leads =
+        reaches-index pack goal ahead.notes.absent able index hash
+        (subst (λ (i : ObjectId). Leads pack hash i index) (sym own) leads)
 
     abbrev seeks : Ahead → List SnapshotIndex → Tried
     seeks ahead indices =
@@ -173,47 +171,41 @@ module _ (hash : Kind) (id : ObjectId) (target : Path) where
         (first_of found (search goal ahead.notes.absent rest))
 
     -- what the search in the first index leads to
-    first_goes : (ahead : Ahead) (index : SnapshotIndex) (rest : List SnapshotIndex) → IsPresent (pack_path target) ahead.notes.absent → All LeadsIfThere rest
-        → (index.path ≡ target → Reaches (pack_path target) (tried goal ahead.notes.absent index)) → IsAhead (index ∷ rest) ahead.todo
+    first_goes : (ahead : Ahead) (index : SnapshotIndex) (rest : List SnapshotIndex) → IsSearchable ahead → IsAhead (index ∷ rest) ahead.todo
         → (IsAhead rest ahead.todo → IsNoMiss (seeks ahead rest))
         → (found : Sought) → tried goal ahead.notes.absent index ≡ found → IsNoMiss (seeks_by ahead found rest)
-    first_goes ahead index rest present lead reach has more Nowhere is =
+    first_goes ahead index rest able has more Nowhere is =
         elim (first_or_ahead index rest ahead.todo has) [
-          | inl at ↦ absurd (subst (Reaches (pack_path target)) is (reach at))
+          | inl leads ↦ absurd (subst (Reaches pack) is (reached ahead index able leads))
           | inr later ↦ more later
         ]
-    first_goes ahead index rest present lead reach has more (Finds what) is = tt
-    first_goes ahead index rest present lead reach has more (Fails error) is = tt
-    first_goes ahead index rest present lead reach has more (Wants pack) is =
+    first_goes ahead index rest able has more (Finds what) is = tt
+    first_goes ahead index rest able has more (Fails error) is = tt
+    first_goes ahead index rest able has more (Wants wanted) is =
         record {
           of_id = own;
-          searchable = record { lead = lead; present = present };
+          searchable = able;
           way =
               elim (first_or_ahead index rest ahead.todo has) [
-                | inl at ↦ inl (subst (Reaches (pack_path target)) is (reach at))
+                | inl leads ↦ inl (subst (Reaches pack) is (reached ahead index able leads))
                 | inr later ↦ inr later
               ];
         }
 
-    indices_go : (ahead : Ahead) → IsPresent (pack_path target) ahead.notes.absent → (indices : List SnapshotIndex) → All LeadsIfThere indices
-        → IsAhead indices ahead.todo → IsNoMiss (seeks ahead indices)
-    indices_go ahead present [] lead (inl has) = absurd (none_in has.0 has.1)
-    indices_go ahead present [] lead (inr has) = todo_goes (record ahead { indices = [] }) (record { lead = lead; present = present }) ahead.todo has
-    indices_go ahead present (index ∷ rest) lead has =
-        first_goes ahead index rest present (All-tail LeadsIfThere index rest lead) (reached ahead index present (All-head LeadsIfThere index rest lead)) has
-        (indices_go ahead present rest (All-tail LeadsIfThere index rest lead)) (tried goal ahead.notes.absent index) refl
+    indices_go : (ahead : Ahead) → IsSearchable ahead → (indices : List SnapshotIndex) → IsAhead indices ahead.todo → IsNoMiss (seeks ahead indices)
+    indices_go ahead able [] (inl has) = absurd (none_in has.0 has.1)
+    indices_go ahead able [] (inr has) = todo_goes (record ahead { indices = [] }) able ahead.todo has
+    indices_go ahead able (index ∷ rest) has =
+        first_goes ahead index rest able has (indices_go ahead able rest) (tried goal ahead.notes.absent index) refl
 
     pub seek_goes : (ahead : Ahead) → IsSearchable ahead → IsAhead ahead.indices ahead.todo → IsNoMiss (seek goal ahead)
-    seek_goes ahead able has = indices_go ahead able.present ahead.indices able.lead has
+    seek_goes ahead able has = indices_go ahead able ahead.indices has
 
     -- ---- an index that is loaded
 
-    loaded_goes : (ahead : Ahead) → IsSearchable ahead → (index : SnapshotIndex) → Leads (pack_path target) hash id index
+    loaded_goes : (ahead : Ahead) → IsSearchable ahead → (index : SnapshotIndex) → Leads pack hash id index
         → IsNoMiss (at_search goal ahead (tried goal ahead.notes.absent index))
-    loaded_goes ahead able index leads =
-        search_goes ahead able (tried goal ahead.notes.absent index)
-        (inl (reaches-index (pack_path target) goal ahead.notes.absent able.present index hash
-        (subst (λ (i : ObjectId). Leads (pack_path target) hash i index) (sym own) leads)))
+    loaded_goes ahead able index leads = search_goes ahead able (tried goal ahead.notes.absent index) (inl (reached ahead index able leads))
 
     pub load_goes : (ahead : Ahead) → IsSearchable ahead → (step : LoadStep) → IsKept step ⊎ HasTodo ahead.todo → IsNoMiss (after_load goal ahead step)
     load_goes ahead able (steps.More loader) way = record { of_id = own; searchable = able; way = way }
@@ -221,7 +213,7 @@ module _ (hash : Kind) (id : ObjectId) (target : Path) where
     load_goes ahead able (steps.Loaded index) (inr has) = search_goes ahead able (tried goal ahead.notes.absent index) (inr has)
     load_goes ahead able (steps.Missed why) (inl kept) = absurd kept
     load_goes ahead able (steps.Missed why) (inr has) =
-        seek_goes (record ahead { notes = noting ahead.notes why }) (record { lead = able.lead; present = able.present }) (inr has)
+        seek_goes (record ahead { notes = noting ahead.notes why }) able (inr has)
     load_goes ahead able (steps.Broken refusal) way = tt
 
     -- ---- a pack that was absent
@@ -230,4 +222,4 @@ module _ (hash : Kind) (id : ObjectId) (target : Path) where
         → IsNoMiss (seek goal (record ahead { notes = with_absent ahead.notes wanted.slot wanted.path }))
     passed_goes ahead able wanted way =
         seek_goes (record ahead { notes = with_absent ahead.notes wanted.slot wanted.path })
-        (record { lead = able.lead; present = present-noted (pack_path target) ahead.notes wanted.slot wanted.path way.0 able.present }) way.1
+        (present-noted pack ahead.notes wanted.slot wanted.path way.0 able) way.1

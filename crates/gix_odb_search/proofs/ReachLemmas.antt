@@ -1,4 +1,4 @@
--- The search in an index that gives an id an offset in its one pack: it ends, or wants the pack.
+-- The search in an index that gives an id an offset in a pack: it ends, or wants the pack.
 use Rattle.std.proofs.Common.{◌≡◌, ◌⊎◌, inl, inr, ℕ, zero, suc, Bool, true, false, ◌||◌, ◌&&◌, ◌==◌, List, [], ◌∷◌, map, slice_get, Contains, Option}
 use Rattle.std.proofs.Common.{Some, None, option_map, Result, Ok, Err}
 use Rattle.std.proofs.Common.{Ordering, Less, Equal, Greater, refl, sym, ap, ◌∙◌, subst, arith}
@@ -7,7 +7,7 @@ use Rattle.std.specs.Ordering.{is_eq, ordering_reverse}
 use Rattle.std.proofs.lemmas.Bool.{and_parts, cases_Bool, cond-true, cond-false, false_from_ne_true}
 use Rattle.std.proofs.lemmas.List.Elements.{All-head, All-tail}
 use Rattle.std.proofs.lemmas.List.Folds.{list_any-append}
-use Rattle.std.proofs.lemmas.Option.{same_Some}
+use Rattle.std.proofs.lemmas.Option.{same_Some, slice_get-map}
 use Rattle.odb_base.specs.Path.{Path}
 use Rattle.gix_hash.proofs.IdOrderLaws.{id_order}
 use Rattle.gix_hash.specs.ObjectId.{id_cmp}
@@ -15,11 +15,13 @@ use Rattle.gix_hash.specs.declared.kind.Kind.{Kind}
 use Rattle.gix_hash.specs.declared.object_id.ObjectId.{ObjectId}
 use Rattle.gix_pack_read.specs.FileBytes.{FileBytes}
 use Rattle.gix_pack_read.specs.Index.{index_rows}
-use Rattle.gix_pack_read.specs.Rows.{Row}
+use Rattle.gix_pack_read.specs.MultiIndex.{multi_index_of, told}
+use Rattle.gix_pack_read.specs.Rows.{PackRow, Row}
 use Rattle.gix_odb_events.specs.OnDiskFile.{loaded}
 use Rattle.gix_odb_events.specs.PackFiles.{PackFile, same_path}
 use Rattle.gix_odb_events.proofs.SamePathLaws.{same_path-true}
-use Rattle.gix_odb_events.specs.declared.loaded.LoadedIndex.TheVariants.{Single}
+use Rattle.gix_odb_events.specs.declared.loaded.LoadedIndex.{LoadedIndex}
+use Rattle.gix_odb_events.specs.declared.loaded.LoadedIndex.TheVariants.{Single, Multi}
 use Rattle.gix_odb_events.specs.declared.loaded.SnapshotIndex.{SnapshotIndex}
 use Rattle.gix_odb_search.specs.Goal.{given_by}
 use Rattle.gix_odb_search.specs.Search.{at_spot, given_or_not, in_file, in_packs, place_in, tried, was_absent, with_absent}
@@ -34,6 +36,7 @@ use Rattle.gix_odb_search.specs.declared.search.Notes.{Notes}
 use Rattle.gix_odb_search.specs.declared.search.Sought.{Sought}
 use Rattle.gix_odb_search.specs.declared.search.Sought.TheVariants.{Nowhere, Finds, Fails, Wants}
 use Rattle.gix_odb_search.specs.declared.spot.Spot.{Spot}
+use Rattle.gix_odb_search.proofs.MultiSpotLemmas.{row_spot, spot_of}
 
 -- ---- elements of lists
 
@@ -119,7 +122,7 @@ module _ (pack : Path) where
   Reaches (Wants wanted) = wanted.path ≡ pack
 
   -- an index gives an id an offset, and the pack is its one pack
-  pub record Leads (hash : Kind) (id : ObjectId) (index : SnapshotIndex) : Type 0 where
+  pub record SingleLeads (hash : Kind) (id : ObjectId) (index : SnapshotIndex) : Type 0 where
     pub file : FileBytes
     pub single : index.index ≡ Single file
     pub kind : file.kind ≡ hash
@@ -127,6 +130,20 @@ module _ (pack : Path) where
     pub among : Contains (index_rows hash file.bytes) row
     pub of_id : row.id ≡ id
     pub one : map (λ (file : PackFile). file.path) index.packs ≡ pack ∷ []
+
+  -- a multi-pack index gives an id an offset in the pack, which is one of its packs
+  pub record MultiLeads (id : ObjectId) (index : SnapshotIndex) : Type 0 where
+    pub bytes : List ℕ
+    pub multi : index.index ≡ Multi bytes
+    pub whole : multi_index_of bytes ≡ Some (told bytes)
+    pub row : PackRow
+    pub among : Contains (told bytes).rows row
+    pub of_id : row.id ≡ id
+    pub at : slice_get (map (λ (file : PackFile). file.path) index.packs) row.pack ≡ Some pack
+
+  -- an index of either kind gives an id an offset in the pack
+  abbrev pub Leads : Kind → ObjectId → SnapshotIndex → Type 0
+  Leads hash id index = SingleLeads hash id index ⊎ MultiLeads id index
 
   module _ (goal : Goal) (absent : List AbsentFile) (present : IsPresent pack absent) (index : SnapshotIndex) where
     reaches-given : (given : Result Found Error) → Reaches (given_or_not given)
@@ -153,10 +170,33 @@ module _ (pack : Path) where
     reaches-spot Object offset one = reaches-packs (record { place = 0; offset = offset }) index.packs one
     reaches-spot Header offset one = reaches-packs (record { place = 0; offset = offset }) index.packs one
 
-    pub reaches-index : (hash : Kind) → Leads hash goal.id index → Reaches (tried goal absent index)
-    reaches-index hash leads =
+    reaches-single : (hash : Kind) → SingleLeads hash goal.id index → Reaches (tried goal absent index)
+    reaches-single hash leads =
         let row = leads.row in
         let among = subst (λ (kind : Kind). Contains (index_rows kind leads.file.bytes) row) (sym leads.kind) leads.among in
         let spot = has_spot leads.file goal.id row among leads.of_id in
         let is : spot_in index.index goal.id ≡ Some (record { place = 0; offset = spot.0 }) = ap (λ (i : _). spot_in i goal.id) leads.single ∙ spot.1 in
         subst (λ (s : Option Spot). Reaches (at_spot goal.want goal absent index s)) (sym is) (reaches-spot goal.want spot.0 leads.one)
+
+    reaches-named : (spot : Spot) (found : Option PackFile) → option_map (λ (file : PackFile). file.path) found ≡ Some pack
+        → Reaches (in_packs goal absent index spot found)
+    reaches-named spot None at = absurd (cc at)
+    reaches-named spot (Some file) at = reaches-file spot file.path (same_Some file.path pack at) (loaded file.state)
+
+    reaches-place : (wanted : Want) (spot : Spot) → option_map (λ (file : PackFile). file.path) (slice_get index.packs spot.place) ≡ Some pack
+        → Reaches (at_spot wanted goal absent index (Some spot))
+    reaches-place Presence spot at = tt
+    reaches-place Object spot at = reaches-named spot (slice_get index.packs spot.place) at
+    reaches-place Header spot at = reaches-named spot (slice_get index.packs spot.place) at
+
+    reaches-multi : MultiLeads goal.id index → Reaches (tried goal absent index)
+    reaches-multi leads =
+        let is : spot_in index.index goal.id ≡ Some (spot_of leads.row) =
+        ap (λ (i : LoadedIndex). spot_in i goal.id) leads.multi ∙ row_spot leads.bytes goal.id leads.row leads.whole leads.among leads.of_id in
+        subst (λ (s : Option Spot). Reaches (at_spot goal.want goal absent index s)) (sym is)
+        (reaches-place goal.want (spot_of leads.row)
+        (sym (slice_get-map (λ (file : PackFile). file.path) index.packs leads.row.pack) ∙ leads.at))
+
+    pub reaches-index : (hash : Kind) → Leads hash goal.id index → Reaches (tried goal absent index)
+    reaches-index hash (inl leads) = reaches-single hash leads
+    reaches-index hash (inr leads) = reaches-multi leads

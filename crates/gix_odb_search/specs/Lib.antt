@@ -1,5 +1,7 @@
 pub mod PackFolder
+pub mod MultiPack
 pub mod LongestFirst
+pub mod ListedStore
 pub mod ListOrder
 pub mod Goal
 pub mod Spot

@@ -112,7 +112,7 @@ fn put_first(
 }
 
 /// Adds a path. Running out of memory changes nothing.
-fn add(paths: &mut BTreeSet<PathText>, path: PathText) -> Result<(), NoMemory>
+pub(crate) fn add(paths: &mut BTreeSet<PathText>, path: PathText) -> Result<(), NoMemory>
     ensures added { OnOk result ((place : Path) → contains path_cmp paths.new place ≡ (contains path_cmp paths.old place || same_path path place)) }
     ensures kept { OnErr result (paths.new.keys ≡ paths.old.keys) }
 {

@@ -8,7 +8,7 @@
 //! let mut lister = Lister::start(alloc, &objects, base)?;
 //! let listed = loop {
 //!     let answer = lister.ask(alloc)?.carry_out(alloc, &mut disk);
-//!     match lister.feed(alloc, &folders, answer)? {
+//!     match lister.feed(alloc, &store, answer)? {
 //!         ListStep::More(more) => lister = more,
 //!         end => break end,
 //!     }
@@ -22,17 +22,19 @@ mod goal;
 mod index_loader;
 mod lister;
 pub mod longest_first;
+mod multi_pack;
 mod rest;
 mod search;
 mod spot;
 mod trier;
 
 pub use absent::AbsentPacks;
-pub use folders::pack_folder;
+pub use folders::{IndexPath, pack_folder};
 pub use gix_odb_events::{Answer, Ask};
 pub use goal::{Error, Found, Goal};
 pub use index_loader::{IndexLoader, IndexPlace, LoadStep};
-pub use lister::{EntryList, ListHead, ListStage, ListStep, Lister};
+pub use lister::{EntryList, ListHead, ListStage, ListStep, ListedStore, Lister};
+pub use multi_pack::{MOST_PACKS, MultiUse};
 pub use rest::Rest;
 pub use search::{AbsentFile, Notes, WantedPack};
 pub use trier::{Ahead, Stage, Tried, Trier};

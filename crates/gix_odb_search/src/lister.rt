@@ -1,18 +1,35 @@
 //! The folders of packs are listed, one after another.
-ghost use Rattle.std.specs.Prelude.{◌≡◌, [], IfOk, slice_get, true};
+ghost use Rattle.std.specs.Prelude.{◌≡◌, ℕ, [], IfOk, None, slice_get, true};
+ghost use Rattle.odb_base.specs.Path.{Path};
+ghost use Rattle.gix_odb_search.specs.ListedStore.{listed_store};
 ghost use Rattle.gix_odb_search.specs.ListOrder.{ask_of, behind_folder, closed, fed_at, opened, read, started};
 ghost use Rattle.gix_odb_search.specs.ListOrder as order;
+ghost use Rattle.gix_odb_search.specs.PackFolder.{multi_index_path};
 
+mod multi;
 mod statting;
 
-use crate::folders::{PathList, index_paths, pack_folder};
+use crate::folders::{IndexPath, index_paths, multi_index_path, pack_folder};
 use crate::longest_first::longest_first;
+use crate::multi_pack::{MultiUse, unnamed};
 use crate::rest::Rest;
-use gix_odb_events::{Listing, ListingRow, ListingRowList, Shared, pack_path};
+use gix_odb_events::{Listing, ListingRow, ListingRowList, LoadedList, Shared, pack_path};
+use multi::by_multi;
 use odb_base::{NoMemory, PathText, Sequence};
 use odb_disk::{DirId, DiskAnswer, DiskAsk, DiskError, Entry};
 use statting::{at_paths, by_index, by_pack};
 use std::alloc::Global;
+
+/// What a listing is told of its store.
+#[derive(Clone, Copy)]
+pub struct ListedStore<'a> {
+    /// The folders besides the objects directory, in order.
+    pub folders: &'a [PathText],
+    /// How multi-pack indices are used; without it they are left out.
+    pub multi: Option<MultiUse>,
+    /// The loaded indices, where a list was read: a multi-pack index with the bytes of one of them isn't parsed again.
+    pub loaded: Option<&'a LoadedList>,
+}
 
 /// The state of a listing of the folders of packs.
 ///
@@ -61,12 +78,16 @@ pub enum ListStage {
     /// An index is to be statted; the others are left.
     Index {
         path: PathText,
-        left: Rest<PathText>,
+        left: Rest<IndexPath>,
     },
     /// The pack of an index is to be statted.
     Pack {
         row: ListingRow,
-        left: Rest<PathText>,
+        left: Rest<IndexPath>,
+    },
+    /// The multi-pack index is to be read.
+    Multi {
+        left: Rest<IndexPath>,
     },
 }
 
@@ -79,6 +100,8 @@ pub enum ListStep {
     Listed(Listing),
     /// A call failed, or a folder of packs is no directory.
     Broken,
+    /// The multi-pack index at a path names more packs than a store may use.
+    TooManyPacks { actual: u32, path: PathText },
 }
 
 impl Lister {
@@ -115,47 +138,48 @@ impl Lister {
             ListStage::Breaking { dir } => Ok(DiskAsk::CloseDir { dir: *dir }),
             ListStage::Index { path, .. } => look_of(alloc, path, false),
             ListStage::Pack { row, .. } => pack_look(alloc, row),
+            ListStage::Multi { .. } => multi_read(alloc, &self.head.folder),
         }
     }
 
-    /// Returns the step after the answer to what was asked for, where these are the folders besides the objects directory.
+    /// Returns the step after the answer to what was asked for, in a store of which this is known.
     pub fn feed(
         self,
         alloc: Global,
-        folders: &[PathText],
+        store: &ListedStore<'_>,
         answer: DiskAnswer,
     ) -> Result<ListStep, NoMemory>
-        ensures fed { IfOk result (λ listed. listed ≡ order.fed folders.now self answer) }
+        ensures fed { IfOk result (λ listed. listed ≡ order.fed (listed_store store.now) self answer) }
     {
         if let DiskAnswer::Refused(DiskError::NoMemory) = answer {
             drop(self);
             return Err(NoMemory);
         }
         let Lister { head, stage } = self;
-        fed_at(alloc, folders, head, stage, answer)
+        fed_at(alloc, store, head, stage, answer)
     }
 }
 
 /// Returns the step after the answer to what a stage asked for.
 fn fed_at(
     alloc: Global,
-    folders: &[PathText],
+    store: &ListedStore<'_>,
     head: ListHead,
     stage: ListStage,
     answer: DiskAnswer,
 ) -> Result<ListStep, NoMemory>
-    ensures fed { IfOk result (λ listed. listed ≡ fed_at folders.now head stage answer) }
+    ensures fed { IfOk result (λ listed. listed ≡ fed_at (listed_store store.now) head stage answer) }
 {
     match stage {
         ListStage::Opening => {
-            let step = opened(alloc, folders, head, &answer);
+            let step = opened(alloc, store, head, &answer);
             drop(answer);
             step
         }
         ListStage::Reading { dir, entries } => read(head, dir, entries, answer),
         ListStage::Closing { entries, .. } => {
             drop(answer);
-            closed(alloc, folders, head, entries)
+            closed(alloc, store, head, entries)
         }
         ListStage::Breaking { .. } => {
             drop(head);
@@ -163,15 +187,16 @@ fn fed_at(
             Ok(ListStep::Broken)
         }
         ListStage::Index { path, left } => {
-            let step = by_index(alloc, folders, head, path, left, &answer);
+            let step = by_index(alloc, store, head, path, left, &answer);
             drop(answer);
             step
         }
         ListStage::Pack { row, left } => {
-            let step = by_pack(alloc, folders, head, row, left, &answer);
+            let step = by_pack(alloc, store, head, row, left, &answer);
             drop(answer);
             step
         }
+        ListStage::Multi { left } => by_multi(alloc, store, head, left, answer),
     }
 }
 
@@ -189,6 +214,14 @@ fn look_of(alloc: Global, path: &PathText, follow: bool) -> Result<DiskAsk, NoMe
     Ok(DiskAsk::Look { path, follow })
 }
 
+/// Returns the read of the multi-pack index of a folder of packs.
+fn multi_read(alloc: Global, folder: &PathText) -> Result<DiskAsk, NoMemory>
+    ensures asks { IfOk result (λ ask. ask ≡ order.read_of (multi_index_path folder.now)) }
+{
+    let path = multi_index_path(alloc, folder)?;
+    Ok(DiskAsk::Read { path })
+}
+
 /// Returns the stat of the pack of an index, links followed.
 fn pack_look(alloc: Global, row: &ListingRow) -> Result<DiskAsk, NoMemory>
     ensures asks { IfOk result (λ ask. ask ≡ order.look_of (order.pack_of row.now) true) }
@@ -203,9 +236,22 @@ fn more(head: ListHead, stage: ListStage) -> ListStep
     ListStep::More(Lister { head, stage })
 }
 
+/// Ends the listing: its rows are put in order, without indices that a multi-pack index names.
+fn listed(alloc: Global, base: u64, rows: ListingRowList) -> Result<ListStep, NoMemory>
+    ensures listed { (folder : Path) (next : ℕ) → IfOk result (λ listed. listed ≡ behind_folder (record { base = base; folder = folder; next = next; rows = rows }) None) }
+{
+    let rows = unnamed(alloc, rows)?;
+    let rows = longest_first(rows)?;
+    Ok(ListStep::Listed(Listing { base, rows }))
+}
+
 /// Lists the next folder, or ends where all are listed.
-fn behind_folder(alloc: Global, folders: &[PathText], head: ListHead) -> Result<ListStep, NoMemory>
-    ensures behind { IfOk result (λ listed. listed ≡ behind_folder head (slice_get folders.now head.next)) }
+fn behind_folder(
+    alloc: Global,
+    store: &ListedStore<'_>,
+    head: ListHead,
+) -> Result<ListStep, NoMemory>
+    ensures behind { IfOk result (λ listed. listed ≡ behind_folder head (slice_get (listed_store store.now).folders head.next)) }
 {
     let ListHead {
         base,
@@ -214,9 +260,8 @@ fn behind_folder(alloc: Global, folders: &[PathText], head: ListHead) -> Result<
         rows,
     } = head;
     drop(folder);
-    let Some(folder) = folders.get(next) else {
-        let rows = longest_first(rows)?;
-        return Ok(ListStep::Listed(Listing { base, rows }));
+    let Some(folder) = store.folders.get(next) else {
+        return listed(alloc, base, rows);
     };
     match pack_folder(alloc, folder) {
         Ok(folder) => {
@@ -246,15 +291,15 @@ fn reading(alloc: Global, head: ListHead, dir: DirId) -> ListStep
 /// Returns the step after a folder was opened. One that isn't there has no packs.
 fn opened(
     alloc: Global,
-    folders: &[PathText],
+    store: &ListedStore<'_>,
     head: ListHead,
     answer: &DiskAnswer,
 ) -> Result<ListStep, NoMemory>
-    ensures opened { IfOk result (λ listed. listed ≡ opened folders.now head answer.now) }
+    ensures opened { IfOk result (λ listed. listed ≡ opened (listed_store store.now) head answer.now) }
 {
     match answer {
         DiskAnswer::Dir(dir) => Ok(reading(alloc, head, *dir)),
-        DiskAnswer::Refused(DiskError::Absent) => behind_folder(alloc, folders, head),
+        DiskAnswer::Refused(DiskError::Absent) => behind_folder(alloc, store, head),
         _ => {
             drop(head);
             Ok(ListStep::Broken)
@@ -281,16 +326,17 @@ fn read(
     }
 }
 
-/// Returns the step after a stream was closed: the indices among its entries are to be statted.
+/// Returns the step after a stream was closed: the indices among its entries are to be statted, or read.
 fn closed(
     alloc: Global,
-    folders: &[PathText],
+    store: &ListedStore<'_>,
     head: ListHead,
     entries: EntryList,
 ) -> Result<ListStep, NoMemory>
-    ensures closed { IfOk result (λ listed. listed ≡ closed folders.now head entries) }
+    ensures closed { IfOk result (λ listed. listed ≡ closed (listed_store store.now) head entries) }
 {
-    let paths = index_paths(alloc, &head.folder, entries.as_slice())?;
+    let multi = store.multi.is_some();
+    let paths = index_paths(alloc, &head.folder, multi, entries.as_slice())?;
     let left = Rest::all(Shared::new(alloc, paths)?);
-    at_paths(alloc, folders, head, left)
+    at_paths(alloc, store, head, left)
 }

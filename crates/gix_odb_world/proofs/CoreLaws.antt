@@ -1,6 +1,7 @@
 -- Laws of what a core answers to the events of look-ups, as its journal grows by each.
 pub mod Wider
 pub mod Fairness
+pub mod MultiRows
 pub mod Journals
 pub mod Shapes
 mod Answers
@@ -29,15 +30,17 @@ use Rattle.gix_odb_events.specs.declared.answer.Ask.TheVariants as asks
 use Rattle.gix_object.specs.declared.want.Want.{Want}
 use Rattle.gix_odb_calls.specs.declared.verdict.Verdict.{Verdict}
 use Rattle.gix_odb.specs.LookExchanges.{Exchange, IsAnswerTo}
-use Rattle.gix_odb.specs.Fair.{HasRows, IsFair, IsIndexSound, PackedPlace, index_at}
+use Rattle.gix_odb.specs.Fair.{HasRows, IsCarried, IsFair, IsIndexSound, ItsIndex, PackedPlace, index_at}
 use Rattle.gix_odb.specs.Laps.{Follows, HasFew, IsNumbered, number_by}
 use Rattle.gix_odb.specs.LookUpOrder.{Setting}
-use Rattle.gix_odb.specs.Shown.{IsHanded, IsShownView}
+use Rattle.gix_odb.specs.Shown.{IsHanded, IsShownView, ShowedBytes}
+use Rattle.gix_odb.specs.Store.{listed_for}
 use Rattle.gix_odb.specs.True.{IsTrue}
 use Rattle.gix_odb_world.proofs.ViewLaws.{what_a_core_shows_was_shown}
 use Rattle.gix_odb_world.proofs.CoreLaws.Answers.{answer_follows_its_base, answer_suits_its_event, number_behind_gives, outdated_tells_the_number}
-use Rattle.gix_odb_world.proofs.CoreLaws.Fairness.{published_views_have_their_rows, shown_views_are_fair}
+use Rattle.gix_odb_world.proofs.CoreLaws.Fairness.{shown_views_are_fair}
 use Rattle.gix_odb_world.proofs.CoreLaws.Journals.{each_of_grown, legal_journal_grows, next_entry_lowers_no_number}
+use Rattle.gix_odb_world.proofs.CoreLaws.MultiRows.{MultisHaveOne, published_views_have_their_rows}
 use Rattle.gix_odb_world.proofs.CoreLaws.Shapes.{entries_stay_below, shape_shows_few}
 
 -- an event of the handle of a seat is answered after a journal, which has one more entry then
@@ -127,23 +130,34 @@ module _ (opening : Shape) (entries : List Entry) (seat : ℕ) (event : Event) (
 
   -- ---- what it shows
 
-  module _ (opened : IsOpened opening) (legal : IsLegal opening entries) (Shown : Path → List ℕ → Type 0) (setting : Setting) (hash : Kind)
+  module _ (opened : IsOpened opening) (legal : IsLegal opening entries) (possible : IsPossible opening entries) (can : CanHappen before_it seat event)
+      (Shown : Path → ℕ → List ℕ → Type 0) (setting : Setting) (hash : Kind)
       (each : (one : Entry) → Contains entries one → IsHanded Shown setting hash one.event) (handed : IsHanded Shown setting hash event) where
+    legal_now : IsLegal opening now
+    legal_now = legal_journal_grows entries entry opening legal next
+
+    possible_now : IsPossible opening now
+    possible_now = possible_journal_grows entries opening entry possible can
+
+    handed_now : (one : Entry) → Contains now one → IsHanded Shown setting hash one.event
+    handed_now = each_of_grown entries entry (λ (one : Entry). IsHanded Shown setting hash one.event) each handed
+
     -- it shows what was shown, where only such files, and rows of the folders, were passed to the core
     pub core_answers_show_what_was_shown : (view : View) → view_in answer ≡ Some view → IsShownView Shown setting hash view
     core_answers_show_what_was_shown view shows =
         subst (IsShownView Shown setting hash) (sym (view_shows_it view shows))
-        (what_a_core_shows_was_shown Shown setting hash now
-        (each_of_grown entries entry (λ (one : Entry). IsHanded Shown setting hash one.event) each handed)
-        opening opened (legal_journal_grows entries entry opening legal next) (number_behind entries))
+        (what_a_core_shows_was_shown Shown setting hash now handed_now opening opened legal_now possible_now (number_behind entries))
 
     pub core_answers_are_true : IsTrue Shown setting hash (asks.Core event) (told.Core answer)
     core_answers_are_true = core_answers_show_what_was_shown
 
-    -- and it is fair to a place where all that was shown as its index is sound
-    pub core_answers_are_fair : (id : ObjectId) (place : PackedPlace) → ((bytes : List ℕ) → Shown (index_at place) bytes → IsIndexSound hash id place bytes)
-        → (past : List Exchange) → IsFair hash id place past (asks.Core event) (told.Core answer)
-    core_answers_are_fair id place index_sound past = (
-      λ view shows. shown_views_are_fair hash id place Shown setting index_sound view (core_answers_show_what_was_shown view shows),
-      subst (HasRows event) (sym answered) (published_views_have_their_rows entries before_it (number_behind entries) seat event),
+    -- and it is fair to a place where all that was shown as its index is sound, and no multi-pack index was shown with two contents at one time
+    pub core_answers_are_fair : MultisHaveOne Shown setting → (id : ObjectId) (place : PackedPlace) → IsCarried (listed_for setting.parts).multi place
+        → (place.carrier ≡ ItsIndex → (bytes : List ℕ) → ShowedBytes Shown (index_at place) bytes → IsIndexSound (listed_for setting.parts).multi hash id place bytes)
+        → (past : List Exchange) → IsFair (listed_for setting.parts).multi hash id place past (asks.Core event) (told.Core answer)
+    core_answers_are_fair rule id place carried index_sound past = (
+      λ view shows.
+          shown_views_are_fair (listed_for setting.parts).multi hash id place carried Shown setting index_sound view (core_answers_show_what_was_shown view shows),
+      subst (HasRows event) (sym answered)
+          (published_views_have_their_rows Shown setting hash rule opening opened entries seat event answer answered legal_now possible_now handed_now handed),
     )

@@ -2,24 +2,15 @@
 pub mod OfTree
 pub mod OneTurn
 pub mod Calls
-use Rattle.std.proofs.Common.{◌≡◌, ℕ, Bool, true, false, List, [], ◌∷◌, length, All, Contains, slice_index_or, Result, Ok, Err, refl, sym, ap, ◌∙◌, subst}
-use Rattle.std.specs.Prelude.{if◌then◌else◌}
+use Rattle.std.proofs.Common.{◌≡◌, ℕ, true, List, [], ◌∷◌, length, All, Contains, slice_index_or, sym, ◌∙◌, subst}
 use Rattle.std.specs.List.{IsDistinct}
 use Rattle.std.proofs.lemmas.Option.{same_Some}
-use Rattle.odb_base.specs.Path.{Path}
-use Rattle.odb_disk.specs.Ask.{answer_now, answer_of, fails_now, meta_answer}
 use Rattle.odb_disk.specs.MemDisk.{Volume}
-use Rattle.odb_disk.specs.declared.ask.DiskAnswer.TheVariants as answers
+use Rattle.odb_disk.specs.declared.ask.DiskAnswer.{DiskAnswer}
+use Rattle.odb_disk.specs.declared.ask.DiskAsk.{DiskAsk}
 use Rattle.odb_disk.specs.declared.ask.DiskAsk.TheVariants as disk_asks
-use Rattle.odb_disk.specs.Tree.{Tree, tree_of}
-use Rattle.odb_disk.specs.Tree.Follow.{Place, Refusal, file_of, file_of_place, followed, looked, meta_of, meta_of_place, meta_with, read_of}
-use Rattle.odb_disk.specs.declared.disk_error.DiskError.TheVariants as errors
+use Rattle.odb_disk.specs.Tree.{Tree}
 use Rattle.odb_disk.specs.declared.entry.Entry.{Entry}
-use Rattle.odb_disk.specs.declared.meta.Kind.TheVariants as kinds
-use Rattle.odb_disk.specs.declared.meta.Meta.{Meta}
-use Rattle.odb_disk.specs.declared.node.Content.{Content}
-use Rattle.odb_disk.specs.declared.node.Content.TheVariants.{File, Dir, Link}
-use Rattle.gix_odb_events.specs.PackPath.{pack_path}
 use Rattle.gix_odb_events.specs.PackFiles.{same_path}
 use Rattle.gix_odb_events.specs.declared.listing.Listing.{Listing}
 use Rattle.gix_odb_events.specs.declared.listing.ListingRow.{ListingRow}
@@ -34,6 +25,7 @@ use Rattle.gix_odb_calls.specs.declared.init.Slots.{Slots}
 use Rattle.gix_odb_calls.specs.declared.init.Slots.TheVariants.{AsNeededByDiskState, Given}
 use Rattle.gix_odb.specs.LookExchanges.{Exchange, WasTold}
 use Rattle.gix_odb.specs.LookUpOrder.{Setting}
+use Rattle.gix_odb.specs.Store.{listed_for}
 use Rattle.gix_odb.specs.Shown.{IsIndexRow}
 use Rattle.gix_odb.proofs.ListerLaws.Known.{KnowsListStep}
 use Rattle.gix_odb.proofs.ListerLaws.Lists.{has_first, has_later}
@@ -42,7 +34,7 @@ use Rattle.gix_odb.specs.Asked.{AreSuited, IsSuited}
 use Rattle.gix_odb.specs.ListedFiles.{AreOfTree}
 use Rattle.gix_odb.specs.ListerCalls.{Call, IsRowSeen, WasCalled, behind_calls}
 use Rattle.gix_odb.proofs.ListingLaws.{listed_rows_are_those_of_the_tree, listed_rows_have_different_paths, listed_rows_were_seen}
-use Rattle.gix_odb.specs.Contents.{ShowsFile, folder_list}
+use Rattle.gix_odb.specs.Contents.{folder_list}
 use Rattle.gix_odb.specs.Moments.{Sometime}
 use Rattle.gix_odb.specs.OpenExchanges.{AreAsked, HasListed, IsNumber, fed_by, list_behind, list_by}
 use Rattle.gix_odb.specs.declared.open_state.OpenStage.TheVariants as opens
@@ -55,52 +47,22 @@ use Rattle.gix_odb_world.specs.Running.Query.{IsGiven}
 use Rattle.gix_odb_world.specs.Told.{told_since}
 use Rattle.gix_odb_world.proofs.CountedFiles.Calls.{HasCalls, calls_behind_the_look}
 use Rattle.gix_odb_world.proofs.CountedFiles.OfTree.{of_tree_to}
-
--- ---- what an answered stat shows
-
-found_by : (b : Bool) (found : Result Meta Refusal) (meta : Meta) → answers.Meta meta ≡ (if b then answers.Refused errors.Failed else meta_answer found)
-    → found ≡ Ok meta
-found_by true found meta is = absurd (cc is)
-found_by false (Ok own) meta is = let same : own ≡ meta = cc is in ap Ok same
-found_by false (Err refusal) meta is = absurd (cc is)
-
-look_found : (disk : Volume) (path : Path) (follow : Bool) (meta : Meta) → answers.Meta meta ≡ answer_now disk (disk_asks.Look path follow)
-    → looked (tree_of disk.state) path follow ≡ Ok meta
-unfolding answer_of
-look_found disk path follow meta is = found_by (fails_now disk (disk_asks.Look path follow)) (looked (tree_of disk.state) path follow) meta is
-
-file_by_kind : (dev ino : ℕ) (content : Content) → (meta_with dev ino content).kind ≡ kinds.File
-    → (bytes : List ℕ) × (time : ℕ) × (file_of content ≡ Ok (bytes, time))
-file_by_kind dev ino (File bytes time) is = (bytes, time, refl)
-file_by_kind dev ino Dir is = absurd (cc is)
-file_by_kind dev ino (Link target) is = absurd (cc is)
-
-file_by_meta : (led : Result Place Refusal) (meta : Meta) → meta_of_place led ≡ Ok meta → meta.kind ≡ kinds.File
-    → (bytes : List ℕ) × (time : ℕ) × (file_of_place led ≡ Ok (bytes, time))
-file_by_meta (Ok place) meta is file =
-    let same : meta_of place.node ≡ meta = cc is in
-    file_by_kind place.node.dev place.node.ino place.node.content (ap (λ (m : Meta). m.kind) same ∙ file)
-file_by_meta (Err refusal) meta is file = absurd (cc is)
-
--- a path at which a stat finds a file shows one, a link in the last place followed
-looked_file_is_shown : (tree : Tree) (path : Path) (meta : Meta) → looked tree path true ≡ Ok meta → meta.kind ≡ kinds.File
-    → (bytes : List ℕ) × ShowsFile tree path bytes
-unfolding looked read_of
-looked_file_is_shown tree path meta is file = let found = file_by_meta (followed tree true path) meta is file in (found.0, (found.1, found.2))
+use Rattle.gix_odb_world.proofs.ListedRows.{IsOfDisk, row_was_listed}
 
 -- ---- the rows of a listing are of the store's folders
 
 module _ (setting : Setting) where
-  step_known : (step : ListStep) (answer : Answer) → KnowsListStep setting step → KnowsListStep setting (list_by setting.parts.folders step answer)
+  step_known : (step : ListStep) (answer : Answer) → KnowsListStep setting step → KnowsListStep setting (list_by (listed_for setting.parts) step answer)
   step_known (listed.More lister) (told.Disk answer) known = fed_known setting lister answer known
   step_known (listed.More lister) (told.Core answer) known = known
   step_known (listed.Listed listing) answer known = known
   step_known listed.Broken answer known = known
+  step_known (listed.TooManyPacks actual path) answer known = known
 
-  listing_known : (step : ListStep) (exchanges : List Exchange) → KnowsListStep setting step → KnowsListStep setting (list_behind setting.parts.folders step exchanges)
+  listing_known : (step : ListStep) (exchanges : List Exchange) → KnowsListStep setting step → KnowsListStep setting (list_behind (listed_for setting.parts) step exchanges)
   listing_known step [] known = known
   listing_known step (exchange ∷ exchanges) known =
-      listing_known (list_by setting.parts.folders step exchange.answer) exchanges (step_known step exchange.answer known)
+      listing_known (list_by (listed_for setting.parts) step exchange.answer) exchanges (step_known step exchange.answer known)
 
 -- ---- the calls of an opening that counted
 
@@ -142,18 +104,6 @@ module _ (first : Volume) (events : List Event) (handle : ℕ) (store : Store) (
   abbrev trees : ℕ → Tree
   trees = tree_at first events
 
-  -- a stat with this answer was answered by the tree of some moment
-  looked_then : (path : Path) (follow : Bool) (meta : Meta) → WasTold exchanges (asks.Disk (disk_asks.Look path follow)) (told.Disk (answers.Meta meta))
-      → Sometime begun (length events) (λ moment. looked (trees moment) path follow ≡ Ok meta)
-  looked_then path follow meta was =
-      let at : IsGiven first events handle begun (disk_asks.Look path follow) (answers.Meta meta) = given.given (disk_asks.Look path follow) (answers.Meta meta) was in
-      record {
-        moment = at.moment;
-        from = at.from;
-        to = at.to;
-        was = ap (λ (t : Tree). looked t path follow) at.shown ∙ look_found at.disk path follow meta at.is;
-      }
-
   module _ (counted : Listing) (has : HasListed setting exchanges (listed.Listed counted)) where
     all_asked : AreAsked setting store.parts.slots opens.Looking (has.look ∷ has.listing)
     all_asked = subst (λ (xs : List Exchange). AreAsked setting store.parts.slots opens.Looking xs) has.are asked
@@ -169,53 +119,32 @@ module _ (first : Volume) (events : List Event) (handle : ℕ) (store : Store) (
     abbrev calls : List Call
     calls = looks.has.calls
 
-    ends : behind_calls setting.parts.folders (start setting store.parts.slots) calls ≡ listed.Listed counted
+    ends : behind_calls (listed_for setting.parts) (start setting store.parts.slots) calls ≡ listed.Listed counted
     ends = looks.has.comes ∙ has.comes
 
-    -- the calls are among the exchanges
-    looked_in : (path : Path) (follow : Bool) (meta : Meta) → WasCalled calls (disk_asks.Look path follow) (answers.Meta meta)
-        → Sometime begun (length events) (λ moment. looked (trees moment) path follow ≡ Ok meta)
-    looked_in path follow meta was =
-        looked_then path follow meta
-        (subst (λ (xs : List Exchange). WasTold xs (asks.Disk (disk_asks.Look path follow)) (told.Disk (answers.Meta meta))) (sym has.are)
-        (has_later has.look has.listing (record { ask = asks.Disk (disk_asks.Look path follow); answer = told.Disk (answers.Meta meta) })
-        (looks.has.made (record { ask = disk_asks.Look path follow; answer = answers.Meta meta }) was)))
+    -- the calls are among the exchanges, and a disk gave their answers
+    given_then : (ask : DiskAsk) (answer : DiskAnswer) → WasCalled calls ask answer → Sometime begun (length events) (λ moment. IsOfDisk (trees moment) ask answer)
+    given_then ask answer was =
+        let at : IsGiven first events handle begun ask answer =
+        given.given ask answer
+        (subst (λ (xs : List Exchange). WasTold xs (asks.Disk ask) (told.Disk answer)) (sym has.are)
+        (has_later has.look has.listing (record { ask = asks.Disk ask; answer = told.Disk answer }) (looks.has.made (record { ask = ask; answer = answer }) was))) in
+        record { moment = at.moment; from = at.from; to = at.to; was = record { disk = at.disk; shown = at.shown; is = sym at.is } }
 
     row_was_shown : (row : ListingRow) → IsRowSeen (WasCalled calls) row → IsIndexRow setting row → WasShownRow trees setting begun (length events) row
-    row_was_shown row seen known =
-        let index = looked_in row.path false seen.index.meta seen.index.told in
-        let pack = looked_in (pack_path row.path) true seen.meta seen.told in
-        record {
-          at = known.at;
-          index = record {
-            moment = index.moment;
-            from = index.from;
-            to = index.to;
-            was = record {
-              itself = record { meta = seen.index.meta; looks = index.was; is_file = seen.index.file };
-              time = seen.index.time;
-              len = seen.index.len;
-            };
-          };
-          pack = record {
-            moment = pack.moment;
-            from = pack.from;
-            to = pack.to;
-            was = looked_file_is_shown (trees pack.moment) (pack_path row.path) seen.meta pack.was seen.file;
-          };
-        }
+    row_was_shown row seen known = (known, row_was_listed (WasCalled calls) trees begun (length events) given_then row seen)
 
     are_counted : AreCounted trees setting begun (length events) counted.rows
     are_counted =
-        let seen : All (IsRowSeen (WasCalled calls)) counted.rows = listed_rows_were_seen setting.parts.folders setting.parts.objects 0 calls counted looks.has.are ends in
+        let seen : All (IsRowSeen (WasCalled calls)) counted.rows = listed_rows_were_seen (listed_for setting.parts) setting.parts.objects 0 calls counted looks.has.are ends in
         let known : All (IsIndexRow setting) counted.rows =
         subst (KnowsListStep setting) has.comes (listing_known setting (start setting store.parts.slots) has.listing (started_known setting 0)) in
         record {
-          different = listed_rows_have_different_paths setting.parts.folders setting.parts.objects 0 calls counted looks.has.are ends distinct;
+          different = listed_rows_have_different_paths (listed_for setting.parts) setting.parts.objects 0 calls counted looks.has.are ends distinct;
           shown = λ k d within. row_was_shown (slice_index_or counted.rows k d) (seen k d within) (known k d within);
           of_tree = λ tree stood.
               let all = given.of_tree tree stood in
-              listed_rows_are_those_of_the_tree setting.parts.folders setting.parts.objects 0 calls counted looks.has.are ends tree
+              listed_rows_are_those_of_the_tree (listed_for setting.parts) setting.parts.objects 0 calls counted looks.has.are ends tree
               (looks.has.of_tree tree []
               (looks.of_tree tree
               (subst (λ (xs : List Exchange). AreOfTree tree [] xs) has.are (of_tree_to tree [] exchanges all.0 all.1))));

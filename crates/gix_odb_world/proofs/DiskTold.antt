@@ -112,8 +112,8 @@ pub read_is : (disk : Volume) (path : Path) (bytes : List ℕ) (time : ℕ) → 
 unfolding answer_of
 read_is disk path bytes time is = read_so (fails_now disk (asks.Read path)) (read_of (tree_of disk.state) path) bytes time is
 
-pub is_true : (Shown : Path → List ℕ → Type 0) (setting : Setting) (hash : Kind) (disk : Volume)
-    → ((path : Path) (bytes : List ℕ) (time : ℕ) → read_of (tree_of disk.state) path ≡ Ok (bytes, time) → Shown path bytes)
+pub is_true : (Shown : Path → ℕ → List ℕ → Type 0) (setting : Setting) (hash : Kind) (disk : Volume)
+    → ((path : Path) (bytes : List ℕ) (time : ℕ) → read_of (tree_of disk.state) path ≡ Ok (bytes, time) → Shown path time bytes)
     → (ask : DiskAsk) → Suits ask (answer_now disk ask) → IsTrue Shown setting hash (parts.Disk ask) (told.Disk (answer_now disk ask))
 is_true Shown setting hash disk shows ask suits = by ask (answer_now disk ask) refl suits
   where

@@ -17,6 +17,7 @@ use Rattle.gix_odb_world.specs.Work.{Work, Opening}
 use Rattle.gix_odb_world.specs.declared.turn.Told.{Told}
 use Rattle.gix_odb_world.specs.declared.turn.Turned.{Turned}
 use Rattle.gix_odb_world.proofs.SeatLemmas.Opened.{IsOn, answered_refuses}
+use Rattle.gix_odb.specs.Store.{listed_for}
 
 -- a handle turns as its work does
 pub turns_by : (handle : Seen) (state : HandleParts) (work : Work) (own : Told) (result : Result Turned NoMemory) → handle ≡ record { state = state; work = Some work }
@@ -35,8 +36,8 @@ on_under_way (opens.Done reply) under = absurd under
 
 -- so an opening that a call of the disk ends is refused
 pub refused_if_done : (opening : OpenState) (answer : DiskAnswer) (next : OpenState) → IsUnderWay (Some (Opening opening.stage))
-    → next ≡ at_stage opening (openings.fed opening.info.value.objects opening.info.value.folders opening.info.value.slots opening.stage (told.Disk answer))
+    → next ≡ at_stage opening (openings.fed opening.info.value.objects (listed_for opening.info.value) opening.info.value.slots opening.stage (told.Disk answer))
     → (reply : Reply) → next.stage ≡ opens.Done reply → refuses_opening reply ≡ true
 refused_if_done opening answer next under is reply done =
-    answered_refuses opening.info.value.objects opening.info.value.folders opening.info.value.slots opening.stage answer reply (on_under_way opening.stage under)
+    answered_refuses opening.info.value.objects (listed_for opening.info.value) opening.info.value.slots opening.stage answer reply (on_under_way opening.stage under)
     (sym (ap (λ (o : OpenState). o.stage) is) ∙ done)

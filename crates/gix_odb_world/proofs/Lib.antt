@@ -27,6 +27,7 @@ mod KnowsLemmas
 pub mod MachineLaws
 pub mod QueryCalls
 mod QuietTurn
+mod ListedRows
 mod CountedFiles
 mod OpeningMachine
 mod LookMachine
@@ -46,6 +47,9 @@ mod FitsLemmas
 mod JudgedLemmas
 mod OneContent
 mod StoreContents
+mod PackPaths
+mod MultiSlots
+mod ReadsShown
 mod WriteKept
 mod WriteTurn
 mod WriteGoes

@@ -1,8 +1,7 @@
 -- The reply of a query keeps its promise, where all answers to its handle are true of the run.
-use Rattle.std.proofs.Common.{◌≡◌, ℕ, ◌≤◌, true, false, List, length, Contains, Some, Ok, inl, inr, refl, sym, ◌∙◌, ap, subst, arith}
+use Rattle.std.proofs.Common.{◌≡◌, ℕ, ◌≤◌, true, false, List, length, Contains, Ok, inl, inr, refl, sym, ◌∙◌, ap, subst, arith}
 use Rattle.odb_base.specs.Path.{Name, Path}
 use Rattle.odb_disk.specs.Tree.{Tree}
-use Rattle.odb_disk.specs.Ask.{answer_now}
 use Rattle.odb_disk.specs.MemDisk.{Volume, next_fails}
 use Rattle.gix_hash.specs.ObjectId.{kind_of}
 use Rattle.gix_hash.specs.declared.object_id.ObjectId.{ObjectId}
@@ -27,11 +26,12 @@ use Rattle.gix_object.specs.declared.want.Want.TheVariants as wants
 use Rattle.gix_odb_calls.specs.declared.verdict.FolderCall.{FolderCall}
 use Rattle.gix_odb_calls.specs.declared.verdict.Verdict.{Verdict}
 use Rattle.gix_odb_calls.specs.declared.verdict.Verdict.TheVariants as verdicts
-use Rattle.gix_odb_events.specs.PackPath.{pack_path}
+use Rattle.gix_odb_events.specs.PackPath.{folder_of, pack_in, pack_path}
+use Rattle.gix_odb_search.specs.PackFolder.{multi_index_name, pack_folder}
 use Rattle.gix_pack_read.specs.Pack.{entry_at, header_at, is_pack}
 use Rattle.gix_odb.specs.Caused.{IsCaused}
 use Rattle.gix_odb.specs.LookExchanges.{AreAsked, Exchange, HasVerdict}
-use Rattle.gix_odb.specs.Fair.{PackedPlace}
+use Rattle.gix_odb.specs.Fair.{ItsIndex, PackedPlace, TheMulti}
 use Rattle.gix_odb.specs.Found.{Gives, IsEntryReply, IsFound, IsHeaderReply, IsInIndex, IsInPack}
 use Rattle.gix_odb.specs.LookUpOrder.{Setting, not_found, result_of}
 use Rattle.gix_odb.specs.Reply.{IsAnswer, IsReplyTo}
@@ -39,9 +39,11 @@ use Rattle.gix_odb.specs.declared.look_up.LookUp.{LookUp}
 use Rattle.gix_odb.proofs.CauseLaws.{each_refusal_has_its_cause, replies_are_of_the_query}
 use Rattle.gix_odb.proofs.FoundLaws.{what_is_found_was_shown}
 use Rattle.gix_odb.proofs.MissLaws.{not_found_had_no_failure, not_found_missed_in_each_folder, nothing_still_in_packs_is_missed}
-use Rattle.gix_odb.specs.Contents.{Answer, Contents, HeaderOf, Holds, HoldsEntry, InIndex, InPack, LooseFile, Object, Presence, folder_list, sought}
-use Rattle.gix_odb.specs.Held.{Held, InLooseFile, InPackFile, LiesAt, Place, Still, WasShown, WasShownAt}
+use Rattle.gix_odb.specs.Contents.{Answer, Contents, HeaderOf, Holds, HoldsEntry, InIndex, InMulti, InMultiPack, InPack, LooseFile, Object, Presence, folder_list, sought}
+use Rattle.gix_odb.specs.Held.{Held, InLooseFile, InMultiPackFile, InPackFile, LiesAt, Place, Still, WasShown, WasShownAt, WasShownWith, index_path, multi_path}
 use Rattle.gix_odb.specs.Moments.{Throughout}
+use Rattle.gix_odb.specs.Shown.{ShowedBytes}
+use Rattle.gix_odb.specs.Store.{listed_for}
 use Rattle.gix_odb_world.specs.AtWork.{Modes, Store, setting_in}
 use Rattle.gix_odb_world.specs.Causes.{FindCause, GaveSometime, LooseCause, Sometime}
 use Rattle.gix_odb_history.specs.Event.{Event}
@@ -54,7 +56,9 @@ use Rattle.gix_odb_world.specs.Running.Query.{IsFit, IsGiven, IsToldWell}
 use Rattle.gix_odb_world.specs.Told.{look_begun, look_now, told_since, view_then}
 use Rattle.gix_odb_history.proofs.FailedLemmas.{fails_now-still}
 use Rattle.gix_odb_world.proofs.FolderLemmas.{VerdictSays, folder_asks_still, folder_says}
-use Rattle.gix_odb_world.proofs.PackedStill.Contents.{lies_indexed}
+use Rattle.gix_odb_world.proofs.PackPaths.{folder_of-push}
+use Rattle.gix_odb_world.proofs.PackedStill.Contents.{lies_by_index, lies_by_multi, packed_at, sound_multi_gives, uses_multis}
+use Rattle.gix_odb_world.proofs.ReadsShown.{shown_at}
 use Rattle.gix_odb_world.proofs.RefusedLemmas.{never_for_memory, since_told}
 
 -- what held at some moment held until later
@@ -93,8 +97,8 @@ module _ (first : Volume) (events : List Event) (handle : ℕ) (store : Store) (
   abbrev setting : Setting
   setting = setting_in store
 
-  abbrev Shown : Path → List ℕ → Type 0
-  Shown path bytes = WasShownAt trees store.opened now path bytes
+  abbrev Shown : Path → ℕ → List ℕ → Type 0
+  Shown path time bytes = WasShownWith trees store.opened now path time bytes
 
   abbrev look : LookUp
   look = look_now events handle store modes begun query
@@ -114,6 +118,8 @@ module _ (first : Volume) (events : List Event) (handle : ℕ) (store : Store) (
     shown_later folder (InIndex name index offset) was = (was.0, sometime_later store.opened moment now to _ was.1)
     shown_later folder (InPack name index pack offset) was =
         (was.0, sometime_later store.opened moment now to _ was.1, sometime_later store.opened moment now to _ was.2)
+    shown_later folder (InMulti name multi offset) was = sometime_later store.opened moment now to _ was
+    shown_later folder (InMultiPack name multi pack offset) was = (sometime_later store.opened moment now to _ was.0, sometime_later store.opened moment now to _ was.1)
 
     held_later : (answer : Answer) → Held trees store.parts store.opened begun moment want id answer → IsHeld answer
     held_later answer held =
@@ -171,39 +177,61 @@ module _ (first : Volume) (events : List Event) (handle : ℕ) (store : Store) (
 
   -- ---- what was found in packs
 
-  module _ (path : Path) (offset : ℕ) (row : IsInIndex Shown setting store.parts.object_hash id path offset) where
-    -- a row of an index answers a test
-    row_held : want ≡ wants.Presence → IsHeld Presence
-    row_held is = record {
-      folder = row.at.folder;
-      among = row.at.among;
-      contents = InIndex row.at.name row.bytes offset;
-      shown = (row.at.named, subst (λ p. WasShownAt trees store.opened now p row.bytes) row.at.is row.shown);
-      holds =
-          subst (λ q. Holds store.parts q id (InIndex row.at.name row.bytes offset) Presence) (sym is)
-          (subst (λ hash. Gives hash row.bytes id offset) (sym fits.hashed) row.gives, refl);
-    }
+  -- what was shown at a path, by another name of the path
+  was_at : (path other : Path) (bytes : List ℕ) → path ≡ other → ShowedBytes Shown path bytes → WasShownAt trees store.opened now other bytes
+  was_at path other bytes is shown = subst (λ (p : Path). WasShownAt trees store.opened now p bytes) is (shown_at trees store.opened now path bytes shown)
 
-  -- an index and its pack hold what the pack has at the offset
+  -- the row of an index, or of a multi-pack index, answers a test
+  row_held : (pack : Path) (offset : ℕ) → IsInIndex Shown setting store.parts.object_hash id pack offset → want ≡ wants.Presence → IsHeld Presence
+  row_held pack offset (inl row) is = record {
+    folder = row.at.folder;
+    among = row.at.among;
+    contents = InIndex row.at.name row.bytes offset;
+    shown = (row.at.named, was_at row.path (index_path row.at.folder row.at.name) row.bytes row.at.is row.shown);
+    holds =
+        subst (λ q. Holds store.parts q id (InIndex row.at.name row.bytes offset) Presence) (sym is)
+        (subst (λ hash. Gives hash row.bytes id offset) (sym fits.hashed) row.gives, refl);
+  }
+  row_held pack offset (inr row) is = record {
+    folder = row.at.folder;
+    among = row.at.among;
+    contents = InMulti row.name row.bytes offset;
+    shown = was_at row.path (multi_path row.at.folder) row.bytes row.at.is row.shown;
+    holds = subst (λ q. Holds store.parts q id (InMulti row.name row.bytes offset) Presence) (sym is) (row.gives, refl);
+  }
+
+  -- an index, or a multi-pack index, and a pack hold what the pack has at the offset
   module _ (Content : (pack : List ℕ) (offset : ℕ) → Type 0) (in_pack : IsInPack Shown setting store.parts.object_hash id Content) where
+    parsed : is_pack (kind_of id) in_pack.pack ≡ true
+    parsed = subst (λ hash. is_pack hash in_pack.pack ≡ true) (sym fits.hashed) in_pack.parsed
+
     pack_held : (answer : Answer) → HoldsEntry store.parts want (kind_of id) in_pack.pack in_pack.offset answer → IsHeld answer
-    pack_held answer holds =
-        let row = in_pack.index in
-        record {
+    pack_held answer holds = by in_pack.index
+      where
+        by : IsInIndex Shown setting store.parts.object_hash id in_pack.path in_pack.offset → IsHeld answer
+        by (inl row) = record {
           folder = row.at.folder;
           among = row.at.among;
           contents = InPack row.at.name row.bytes in_pack.pack in_pack.offset;
           shown = (
             row.at.named,
-            subst (λ p. WasShownAt trees store.opened now p row.bytes) row.at.is row.shown,
-            subst (λ p. WasShownAt trees store.opened now (pack_path p) in_pack.pack) row.at.is in_pack.shown,
+            was_at row.path (index_path row.at.folder row.at.name) row.bytes row.at.is row.shown,
+            was_at in_pack.path (pack_path (index_path row.at.folder row.at.name)) in_pack.pack (row.is ∙ ap pack_path row.at.is) in_pack.shown,
           );
-          holds = (
-            subst (λ hash. Gives hash row.bytes id in_pack.offset) (sym fits.hashed) row.gives,
-            subst (λ hash. is_pack hash in_pack.pack ≡ true) (sym fits.hashed) in_pack.parsed,
-            holds,
-          );
+          holds = (subst (λ hash. Gives hash row.bytes id in_pack.offset) (sym fits.hashed) row.gives, parsed, holds);
         }
+        by (inr row) =
+            let parent : folder_of row.path ≡ pack_folder row.at.folder = ap folder_of row.at.is ∙ folder_of-push (pack_folder row.at.folder) multi_index_name in
+            record {
+              folder = row.at.folder;
+              among = row.at.among;
+              contents = InMultiPack row.name row.bytes in_pack.pack in_pack.offset;
+              shown = (
+                was_at row.path (multi_path row.at.folder) row.bytes row.at.is row.shown,
+                was_at in_pack.path (pack_in (pack_folder row.at.folder) row.name) in_pack.pack (row.is ∙ ap (λ (f : Path). pack_in f row.name) parent) in_pack.shown,
+              );
+              holds = (row.gives, parsed, holds);
+            }
 
   found : (wanted : Want) (reply : Reply) → want ≡ wanted → IsFound Shown setting store.parts.object_hash id wanted reply → Says (claim_of wanted reply)
   found wants.Object reply is in_pack =
@@ -249,21 +277,40 @@ module _ (first : Volume) (events : List Event) (handle : ℕ) (store : Store) (
       passed : ¬ (LeadsToFile (trees at.moment) (loose_path folder id))
       passed = (said folder among verdicts.Misses has).1
 
+      -- nothing stayed unchanged in a pack of the folder
+      none_packed : (place : PackedPlace) → place.folder ≡ folder → ¬ (IsPackedStill trees store begun now id place)
+      none_packed place here still =
+          nothing_still_in_packs_is_missed setting store.parts.object_hash view want id told fits.hashed place still.carried
+          (subst (Contains (folder_list store.parts)) (sym here) among) asked (well.fair id place none_failed still) is
+
       -- no index gave it an offset throughout, with a pack of the same name
       not_in_pack : (name : Name) (offset : ℕ) → ¬ (Throughout begun now (λ moment. LiesAt store.parts want (trees moment) folder id (InPackFile name offset)))
       not_in_pack name offset always =
           let named = (always at.moment at.from at.to).named in
-          let place : PackedPlace = record { folder = folder; name = name; named = named; offset = offset } in
-          let still : IsPackedStill trees store begun now id place = record {
-            always = λ moment from to. lies_indexed store.parts want (trees moment) store.parts.object_hash id fits.hashed place (always moment from to);
+          none_packed (packed_at folder ItsIndex name offset) refl
+          (record {
+            carried = named;
+            always = λ moment from to. lies_by_index store.parts want (trees moment) id fits.hashed folder name offset (always moment from to);
             one = rule folder among name named;
-          } in
-          nothing_still_in_packs_is_missed setting store.parts.object_hash view want id told fits.hashed place among asked (well.fair id place none_failed still) is
+          })
+
+      -- and no multi-pack index did, with a pack that it names
+      not_by_multi : (name : Name) (offset : ℕ) → ¬ (Throughout begun now (λ moment. LiesAt store.parts want (trees moment) folder id (InMultiPackFile name offset)))
+      not_by_multi name offset always =
+          let lies = always at.moment at.from at.to in
+          let gives = sound_multi_gives store.parts want id name lies.multi lies.pack offset lies.sound in
+          none_packed (packed_at folder TheMulti name offset) refl
+          (record {
+            carried = uses_multis (listed_for store.parts).multi lies.multi gives.usable;
+            always = λ moment from to. lies_by_multi store.parts want (trees moment) id folder name offset (always moment from to);
+            one = tt;
+          })
 
       none_still : (place : Place) → ¬ (Throughout begun now (λ moment. LiesAt store.parts want (trees moment) folder id place))
       none_still InLooseFile always =
           let here = always at.moment at.from at.to in passed (record { bytes = here.0; time = here.1.0; given = here.1.1; holds = tt })
       none_still (InPackFile name offset) always = not_in_pack name offset always
+      none_still (InMultiPackFile name offset) always = not_by_multi name offset always
 
     missed : (¬ Failed) × (¬ (Still trees store.parts begun now want id))
     missed = (none_failed, λ still. none_still still.folder still.among still.place still.always)
@@ -279,6 +326,7 @@ module _ (first : Volume) (events : List Event) (handle : ℕ) (store : Store) (
       by (errors.LoadIndex (load_errors.InsufficientSlots current needed)) caused =
           since_told events handle modes.core begun refusing (refusals.InsufficientSlots current needed) caused
       by (errors.LoadIndex load_errors.GenerationOverflow) caused = since_told events handle modes.core begun refusing refusals.GenerationOverflow caused
+      by (errors.LoadIndex (load_errors.TooManyPacksInMultiIndex actual limit path)) caused = caused
       by (errors.LoadIndex (load_errors.Unsettled first_no own last)) caused = caused
       by (errors.LoadIndex load_errors.NoMemory) caused = never_for_memory events handle modes.core begun refusing caused
       by errors.LoadPack caused = caused

@@ -32,6 +32,7 @@ use Rattle.gix_odb_world.proofs.CountedFiles.OneTurn.{given_as_before, given_at_
 use Rattle.gix_odb_world.proofs.MachineLaws.{BeginsAs, IsRunning, IsTurnAsking, KeepsLaws, KeepsTurnLaws, MachineComes, TakesTurn, told_after, writes_nothing}
 use Rattle.gix_odb_world.proofs.OpeningMachine.Turn.{listing_comes, look_comes, quiet, registered, shown_before, takes_call}
 use Rattle.gix_odb_world.proofs.ToldLemmas.{told_kept}
+use Rattle.gix_odb.specs.Store.{listed_for}
 
 -- ---- its code
 
@@ -48,8 +49,8 @@ opening_feeds : (store : Store) (modes : Modes) (code : HandleParts) → IsHandl
     → result_in (fed_after code (Opening state) answer) ≡ placed opening (opening.feed store state answer)
 opening_feeds store modes code own state None = opening_placed (openings.result_of state)
 opening_feeds store modes code own state (Some answer) =
-    ap (λ (parts : StoreParts). opening_result (openings.result_of (openings.fed parts.objects parts.folders parts.slots state answer))) own.parts
-    ∙ opening_placed (openings.result_of (openings.fed store.parts.objects store.parts.folders store.parts.slots state answer))
+    ap (λ (parts : StoreParts). opening_result (openings.result_of (openings.fed parts.objects (listed_for parts) parts.slots state answer))) own.parts
+    ∙ opening_placed (openings.result_of (openings.fed store.parts.objects (listed_for store.parts) store.parts.slots state answer))
 
 -- ---- its beginning
 

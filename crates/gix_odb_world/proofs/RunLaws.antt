@@ -2,9 +2,9 @@
 pub mod KnownRun
 mod LastTold
 mod QueryTurns
-mod JustRead
+pub mod JustRead
 mod OneTree
-mod ToldThen
+pub mod ToldThen
 mod RefreshListings
 mod CallTurns
 mod TurnsAtWork

@@ -65,6 +65,7 @@ use Rattle.gix_odb_world.proofs.SeatLemmas.Looked.{out_looked, seated_looked, se
 use Rattle.gix_odb_world.proofs.SeatLemmas.Opened.{IsOn, answered_refuses, left_of, on_by, opened_by, reply_of}
 use Rattle.gix_odb_world.proofs.SeatLemmas.Applied.{Carries, Stands, StandsAt, applied_by, asks_of_looks, carry_by, carry_nothing, kept, nowhere_now, set, to_now}
 use Rattle.gix_odb_world.proofs.ValidLaws.{done_if_sound, valid_if_sound}
+use Rattle.gix_odb.specs.Store.{listed_for}
 
 -- ---- replies that refuse an opening
 
@@ -171,8 +172,8 @@ module _ (past : List Event) (e : Event) where
           let fed : fed_in running.store (Opening state) (answered (told (Some (work_asks.Disk ask)))) ≡ Ok reply =
           sym (fed_by state (work_asks.Disk ask) at asks_it) ∙ reply_of _ reply (sym works.goes ∙ out) in
           let parts = running.store.parts in
-          answered_refuses parts.objects parts.folders running.store.parts.slots state given reply on
-          (opened_by (openings.fed parts.objects parts.folders running.store.parts.slots state (work_answers.Disk given)) reply fed)
+          answered_refuses parts.objects (listed_for parts) running.store.parts.slots state given reply on
+          (opened_by (openings.fed parts.objects (listed_for parts) running.store.parts.slots state (work_answers.Disk given)) reply fed)
 
       -- the turn that registers a handle seats it, and any other turn with which an opening ends refuses it
       opened_seat : (state : OpenStage) → running.work ≡ Opening state → IsOn state → IsNowhere before_it number → (reply : Reply) → e.outcome ≡ outcomes.Reply reply

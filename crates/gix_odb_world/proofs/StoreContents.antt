@@ -1,19 +1,16 @@
--- From its opening on each path of an index or of a pack in a folder of a store shows one content.
-use Rattle.std.proofs.Common.{◌≡◌, ℕ, zero, suc, ◌+◌, ◌≤◌, true, List, [], ◌∷◌, ◌++◌, length, take, Contains, Option, Some, None, Ok, inl, inr, refl, sym, ap, ◌∙◌, subst, arith}
-use Rattle.std.specs.Prelude.{◌||◌, codes, nat_eq, if◌then◌else◌}
-use Rattle.std.specs.List.{ends_with}
+-- From its opening on each watched path in a folder of a store shows one content.
+use Rattle.std.proofs.Common.{◌≡◌, ℕ, zero, suc, ◌+◌, ◌≤◌, true, List, [], ◌∷◌, ◌++◌, length, take, Contains, Option, Some, None, inl, inr, refl, sym, ap, ◌∙◌, subst, arith}
+use Rattle.std.specs.Prelude.{if◌then◌else◌}
 use Rattle.std.specs.Option.{option_or}
 use Rattle.std.specs.Ordering.{eq_by_cmp}
 use Rattle.std.proofs.lemmas.Cmp.{eq_by_cmp_equiv}
 use Rattle.std.proofs.lemmas.List.{length_push}
 use Rattle.std.proofs.lemmas.Option.{slice_get_within}
 use Rattle.std.proofs.Math.Seq.{take-length}
-use Rattle.odb_base.specs.Path.{Name, Path, path_cmp}
+use Rattle.odb_base.specs.Path.{Path, path_cmp}
 use Rattle.odb_base.specs.PathLaws.{path_order}
-use Rattle.odb_disk.specs.Tree.Follow.{read_of}
 use Rattle.gix_odb_watch.specs.HasShown.{HasShown, Since, with_since}
-use Rattle.gix_odb_watch.specs.Watched.{pack_directory}
-use Rattle.gix_odb_watch.proofs.ReadLaws.{shows_read}
+use Rattle.gix_odb_watch.specs.Watched.{Shows}
 use Rattle.gix_odb_calls.specs.declared.step.Step.TheVariants as steps
 use Rattle.gix_odb.specs.Contents.{folder_list}
 use Rattle.gix_odb_calls.specs.declared.store_parts.StoreParts.{StoreParts}
@@ -112,24 +109,21 @@ module _ (run : LawfulRun) where
     early : here.0 ≤ store.opened
     early = let bound = are_begun upto folder here.0 here.1 in omega (arith, bound, long)
 
-    module _ (name : Name) (ends : (ends_with nat_eq name (codes ".idx") || ends_with nat_eq name (codes ".pack")) ≡ true) where
-      abbrev path : Path
-      path = pack_directory folder ++ name ∷ []
+    -- what a path showed at a state since the opening
+    has_shown : (path : Path) (time moment : ℕ) (bytes : List ℕ) → store.opened ≤ moment → moment ≤ length events → Shows folder (tree_at first events moment) path time bytes
+        → HasShown (tree_at first events) (watched_after events) (length events) path time bytes
+    has_shown path time moment bytes from to shows = record {
+      folder = folder;
+      begun = here.0;
+      watched = watched;
+      moment = moment;
+      from = omega (arith, from, early);
+      to = to;
+      shows = shows;
+    }
 
-      has_shown : (moment : ℕ) (bytes : List ℕ) (time : ℕ) → store.opened ≤ moment → moment ≤ length events → read_of (tree_at first events moment) path ≡ Ok (bytes, time)
-          → HasShown (tree_at first events) (watched_after events) (length events) path 0 bytes
-      has_shown moment bytes time from to reads = record {
-        folder = folder;
-        begun = here.0;
-        watched = watched;
-        moment = moment;
-        from = omega (arith, from, early);
-        to = to;
-        shows = shows_read folder (tree_at first events moment) name bytes time ends reads;
-      }
-
-      -- two reads of it at states since the opening give the same bytes
-      pub shows_one : (m n : ℕ) (one other : List ℕ) (time at : ℕ) → store.opened ≤ m → m ≤ length events → store.opened ≤ n → n ≤ length events
-          → read_of (tree_at first events m) path ≡ Ok (one, time) → read_of (tree_at first events n) path ≡ Ok (other, at) → one ≡ other
-      shows_one m n one other time at from_m to_m from_n to_n reads also =
-          one_content_shown run path 0 one other (has_shown m one time from_m to_m reads) (has_shown n other at from_n to_n also)
+    -- two contents that it showed at such states, and that count under one time, are the same
+    pub shows_one : (path : Path) (time m n : ℕ) (one other : List ℕ) → store.opened ≤ m → m ≤ length events → store.opened ≤ n → n ≤ length events
+        → Shows folder (tree_at first events m) path time one → Shows folder (tree_at first events n) path time other → one ≡ other
+    shows_one path time m n one other from_m to_m from_n to_n shows also =
+        one_content_shown run path time one other (has_shown path time m one from_m to_m shows) (has_shown path time n other from_n to_n also)

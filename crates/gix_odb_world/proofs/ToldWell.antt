@@ -19,6 +19,7 @@ use Rattle.gix_odb.specs.LookExchanges.{AreAnswered, HasFailed, WasTold}
 use Rattle.gix_odb.specs.Fair.{AreFair}
 use Rattle.gix_odb.specs.Laps.{AreNumbered, AreWithin}
 use Rattle.gix_odb.specs.Shown.{IsShownView}
+use Rattle.gix_odb.specs.Store.{listed_for}
 use Rattle.gix_odb.specs.True.{AreTrue}
 use Rattle.gix_odb_world.proofs.CoreLaws.Wider.{AreTrue-wider, IsShownView-wider}
 use Rattle.gix_odb.specs.HandleState.{unseen}
@@ -114,7 +115,7 @@ module _ (first : Volume) (events : List Event) (e : Event) where
             given_later handle begun ask answer (well.given ask answer (subst (λ xs. WasTold xs (parts.Disk ask) (told.Disk answer)) same was));
         failures = λ failed. subst HasFailed (sym same) (well.failures (fails failed));
         fair = λ id place works still.
-            subst (AreFair store.parts.object_hash id place []) (sym same)
+            subst (AreFair (listed_for store.parts).multi store.parts.object_hash id place []) (sym same)
             (well.fair id place (λ failed. works (failed-kept events e handle begun failed)) (still_before first events e store begun id place still));
       }
 
@@ -144,5 +145,5 @@ module _ (first : Volume) (events : List Event) (e : Event) where
         within = λ entries most. subst (AreWithin entries None) (sym none) tt;
         given = λ ask answer was. absurd (nothing_among _ (subst (λ xs. WasTold xs (parts.Disk ask) (told.Disk answer)) none was));
         failures = λ failed. absurd (none_failed_yet whole handle (length events + 1) (omega (arith, longer)) failed);
-        fair = λ id place works still. subst (AreFair store.parts.object_hash id place []) (sym none) tt;
+        fair = λ id place works still. subst (AreFair (listed_for store.parts).multi store.parts.object_hash id place []) (sym none) tt;
       }

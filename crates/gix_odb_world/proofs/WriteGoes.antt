@@ -10,6 +10,7 @@ use Rattle.gix_odb_events.specs.declared.answer.Answer.TheVariants as answers
 use Rattle.gix_odb_events.specs.declared.answer.Ask.TheVariants as parts
 use Rattle.gix_odb.specs.LookExchanges.{Exchange}
 use Rattle.gix_odb.specs.RefreshOrder.{IsReady}
+use Rattle.gix_odb.specs.Store.{listed_for}
 use Rattle.gix_odb.proofs.RefreshLaws.{a_ready_refresh_asks_nothing, a_ready_step_stays}
 use Rattle.gix_odb_loose.specs.LooseOrder as loose_order
 use Rattle.gix_odb_loose.specs.LooseOrder.{written_to}
@@ -141,7 +142,7 @@ module _ (first : Volume) (events : List Event) (e : Event) (handle : ℕ) (runn
         subst IsReady
         (sym
         (now_more events e handle running.store running.modes running.begun at.since told more
-        ∙ a_ready_step_stays running.store.parts.objects running.store.parts.folders (refresh_now events handle running.store running.modes running.begun)
+        ∙ a_ready_step_stays running.store.parts.objects (listed_for running.store.parts) (refresh_now events handle running.store running.modes running.begun)
         at.ready told.answer))
         at.ready
 

@@ -59,6 +59,7 @@ use Rattle.gix_odb_world.proofs.RefusedLemmas.{refused_later}
 use Rattle.gix_odb_world.proofs.WriteMachine.Begun.{write_starts}
 use Rattle.gix_odb_world.proofs.WriteMachine.Front.{front_comes_on_core, front_comes_on_disk, front_happens, front_quiet, front_takes}
 use Rattle.gix_odb_world.proofs.WriteTurn.{ask_at_stage}
+use Rattle.gix_odb.specs.Store.{listed_for}
 
 -- ---- its code
 
@@ -83,8 +84,8 @@ write_feeds : (store : Store) (modes : Modes) (code : HandleParts) → IsHandleO
     → result_in (fed_after code (work_of state) answer) ≡ placed writing (write_fed store state answer)
 write_feeds store modes code own (InFront refresh call) None = refl
 write_feeds store modes code own (InFront refresh call) (Some answer) =
-    ap (λ (setting : Setting). calling_result (calls.result_of (fronted (refreshes.fed setting.parts.objects setting.parts.folders refresh answer) call))) (setting_same store modes code own)
-    ∙ front_placed call (refreshes.fed store.parts.objects store.parts.folders refresh answer)
+    ap (λ (setting : Setting). calling_result (calls.result_of (fronted (refreshes.fed setting.parts.objects (listed_for setting.parts) refresh answer) call))) (setting_same store modes code own)
+    ∙ front_placed call (refreshes.fed store.parts.objects (listed_for store.parts) refresh answer)
 write_feeds store modes code own (Own call) None = own_placed (result_of_write call)
 write_feeds store modes code own (Own call) (Some answer) = own_placed (result_of_write (written_on call answer))
 write_feeds store modes code own (Unlisted error) None = refl
@@ -235,7 +236,7 @@ write_before : (first : Volume) (events : List Event) (handle : ℕ) (running : 
 write_before first events handle running (InFront refresh own) next None call knows goes writes =
     let left : InFront refresh own ≡ next = cc goes in absurd (cc (ap writes_by left ∙ writes))
 write_before first events handle running (InFront refresh own) next (Some answer) call knows goes writes =
-    inr (own_before first events handle running refresh own knows (refreshes.fed running.store.parts.objects running.store.parts.folders refresh answer) next call goes writes)
+    inr (own_before first events handle running refresh own knows (refreshes.fed running.store.parts.objects (listed_for running.store.parts) refresh answer) next call goes writes)
 write_before first events handle running (Own own) next answer call knows goes writes = inl (own, refl)
 write_before first events handle running (Unlisted error) next answer call knows goes writes = absurd knows
 
@@ -261,6 +262,7 @@ write_kept first events e handle running (InFront refresh call) other knows =
       write = knows.write;
       of = knows.of;
       is = knows.is;
+      opened = knows.opened;
       since = omega (arith, since, longer);
       distinct = knows.distinct;
       refresh_is = knows.refresh_is ∙ sym (now_same events e handle running.store running.modes running.begun knows.since same);

@@ -17,7 +17,7 @@ use Rattle.gix_odb_calls.specs.declared.find.Error as finding
 use Rattle.gix_odb_calls.specs.declared.find.Error.TheVariants as find_errors
 pub use Rattle.gix_odb.specs.Moments.{Sometime}
 use Rattle.gix_odb.specs.Contents.{folder_list}
-use Rattle.gix_odb.specs.Held.{WasShownAt}
+use Rattle.gix_odb.specs.Held.{WasShownWith}
 use Rattle.gix_odb.specs.Caused.{IsCaused}
 use Rattle.gix_odb.specs.OpenExchanges as openings
 use Rattle.gix_odb.specs.OpenExchanges.{IsNumber}
@@ -37,7 +37,7 @@ ShowsDirectory tree path = IsDirectoryMeta (looked tree path true)
 
 -- What each error of an opening says, where `Failed` says that a call of the disk failed in the opening, and `told` are the answers to its handle
 -- since it began. The slots that are too many are those that were given, or as many as the listed indices need. A store can't be listed where
--- a call of the disk failed, or where a folder of packs is no directory.
+-- a call of the disk failed, where a folder of packs is no directory, or where a multi-pack index that was read names too many packs.
 abbrev pub OpeningCause : (ℕ → Tree) → Type 0 → (told : List Exchange) → Store → ℕ → ℕ → opening.Error → Type 0
 OpeningCause trees Failed told store begun now opening_errors.NotADirectory = Sometime begun now (λ moment. ¬ ShowsDirectory (trees moment) store.parts.objects)
 OpeningCause trees Failed told store begun now (opening_errors.TooManySlots asked) =
@@ -62,5 +62,5 @@ pub record LooseCause (trees : ℕ → Tree) (Failed : Type 0) (store : Store) (
 abbrev pub FindCause : (ℕ → Tree) → Type 0 → (Refused : CoreRefusal → Type 0) → (told : List Exchange) → Store → ℕ → ℕ → Want → ObjectId → finding.Error → Type 0
 FindCause trees Failed Refused told store begun now want id (find_errors.Loose error) = LooseCause trees Failed store begun now want id error
 FindCause trees Failed Refused told store begun now want id (find_errors.LoadIndex error) =
-    LoadCause Refused (IsCaused (WasShownAt trees store.opened now) (setting_in store) store.parts.object_hash id want told (find_errors.LoadIndex error)) error
-FindCause trees Failed Refused told store begun now want id error = IsCaused (WasShownAt trees store.opened now) (setting_in store) store.parts.object_hash id want told error
+    LoadCause Refused (IsCaused (WasShownWith trees store.opened now) (setting_in store) store.parts.object_hash id want told (find_errors.LoadIndex error)) error
+FindCause trees Failed Refused told store begun now want id error = IsCaused (WasShownWith trees store.opened now) (setting_in store) store.parts.object_hash id want told error

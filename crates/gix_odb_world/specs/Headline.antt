@@ -176,7 +176,8 @@ pub record IsRun (first : Volume) (events : List Event) (run : Run) : Type 0 whe
   pub registers_own : RegistersOwnThroughout events
   -- a handle's snapshot is never older than an earlier one that it had from the same core
   pub snapshots : SnapshotsNeverFall events
-  -- from the first open step on that names a folder, no path of an index or of a pack there shows two contents
+  -- from the first open step on that names a folder, no path of an index or of a pack there shows two contents, and its multi-pack index shows no two
+  -- at one time
   pub contents : ShowOneContent first events
   -- where the run is undisturbed, no write touches the temporary file of another, and a name that a write made stays whole
   pub alone : WritesStandAlone first events

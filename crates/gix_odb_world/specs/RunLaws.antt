@@ -34,6 +34,7 @@ use Rattle.gix_odb.specs.AtHand.{IsAtHand}
 use Rattle.gix_odb.specs.JustRead.{IsPackPath}
 use Rattle.gix_odb.specs.ListedFiles.{listed_in}
 use Rattle.gix_odb.specs.Contents.{folder_list, sought}
+use Rattle.gix_odb.specs.Store.{listed_for}
 use Rattle.gix_odb_history.specs.Event.{CoreEvent, Event}
 use Rattle.gix_odb_history.specs.Run.{tree_at}
 use Rattle.gix_odb_world.specs.AtWork.{Running, setting_in}
@@ -71,14 +72,15 @@ pub record KeepsRunLaws (first : Volume) (events : List Event) : Type 0 where
   -- its path, for what that read gave.
   pub just_read : (place : ℕ) (e : Event) (handle : ℕ) (running : Running) (query : Query) → IsQueryTurn events place e handle running query
       → (event : CoreEvent) → AsksCore e event → IsBacked events (tree_at first events) handle running.begun place running.store.parts.object_hash event
-  -- The rows of a listing that a query or a write passes to the core have different paths, each that of an index in the pack directory of one of the
-  -- folders of the handle's store, and none is of a multi-pack index. The index of each was itself a file in the call, and its pack's path showed one.
+  -- The rows of a listing that a query or a write passes to the core have different paths, each that of an index, or of the multi-pack index, in the
+  -- pack directory of one of the folders of the handle's store. An index was itself a file in the call, and its pack's path showed one; the path of a
+  -- multi-pack index showed its row's content at its row's time.
   pub rows_shown : (place : ℕ) (e : Event) (handle : ℕ) (running : Running) → IsTurnAt events place e handle running
       → (listing : Listing) → AsksCore e (core_events.Publish listing) → AreRowsShown (setting_in running.store) (tree_at first events) running.begun place listing.rows
   -- where the tree stayed the same since the call began, they are the tree's listed files, in the order in which they are tried
   pub rows_of_tree : (place : ℕ) (e : Event) (handle : ℕ) (running : Running) → IsTurnAt events place e handle running
       → (listing : Listing) → AsksCore e (core_events.Publish listing) → StoodStill (tree_at first events) running.begun place
-      → listing.rows ≡ longest_first (listed_in (tree_at first events running.begun) (folder_list running.store.parts))
+      → listing.rows ≡ longest_first (listed_in (tree_at first events running.begun) (listed_for running.store.parts).multi (folder_list running.store.parts))
   -- where each object in the files of a store, as the run shows them since the store was opened, has data that hash to its id, what a find finds has
   -- data that hash to the id that it seeks
   pub hashes : (place : ℕ) (e : Event) (handle : ℕ) (running : Running) (asked : ObjectId) → IsQueryTurn events place e handle running (find_of asked)

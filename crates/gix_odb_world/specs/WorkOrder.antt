@@ -10,6 +10,7 @@ use Rattle.gix_odb_world.specs.Handle.{HandleParts, setting_at}
 use Rattle.gix_odb.specs.declared.open_state.OpenStage.{OpenStage}
 use Rattle.gix_odb_world.specs.Work.{Work}
 use Rattle.gix_odb_world.specs.Work.{Opening, Calling}
+use Rattle.gix_odb.specs.Store.{listed_for}
 
 -- what the work of a handle asks for, if it asks for anything: a call of the disk, an event of the core of its store, or a core for its
 -- store
@@ -20,7 +21,7 @@ ask_on handle (Calling state) = calls.ask_of state
 -- the work of a handle after the answer to what it asked for
 abbrev pub fed_on : HandleParts → Work → Answer → Work
 fed_on handle (Opening state) answer =
-    Opening (openings.fed handle.info.objects handle.info.folders handle.info.slots state answer)
+    Opening (openings.fed handle.info.objects (listed_for handle.info) handle.info.slots state answer)
 fed_on handle (Calling state) answer = Calling (calls.fed (setting_at handle) state answer)
 
 -- the work of a handle after a turn, where it asked for nothing or had its answer

@@ -1,5 +1,5 @@
 //! Rows of calls, each on its own handle, driven by its asks.
-use crate::listed_rows::ONE;
+use crate::listed_rows::{ONE, TOO_MANY};
 use crate::table::{Opening, check};
 use std::test::Fail;
 
@@ -36,6 +36,10 @@ const HEADER_FAILS: &[&str] = &[
     "call write world | view; open /o/pack; next; close; publish; new /o/tmp_obj_0; append /o/tmp_obj_0; remove /o/tmp_obj_0; refused: could not write header to tempfile in /o",
 ];
 
+const TOO_MANY_PACKS: &[&str] = &[
+    "call find hello | view; open /o/pack; next; next; close; read /o/pack/multi-pack-index; refused: /o/pack/multi-pack-index names 65536 packs, and 65535 are the most",
+];
+
 /// The tables, each with the mistakes that it would catch.
 const TABLES: &[(Opening, &[&str], &[&str])] = &[
     // A call that reads again what is loaded, ends a miss without a listing or without asking the loose folder after
@@ -46,6 +50,8 @@ const TABLES: &[(Opening, &[&str], &[&str])] = &[
     // A call that takes a failed listing for an empty one.
     ((&[2], 0), ONE, LISTING_FAILS),
     ((&[1], 0), ONE, FOLDER_FAILS),
+    // A listing that passes over a multi-pack index of too many packs.
+    ((&[], 0), TOO_MANY, TOO_MANY_PACKS),
     // A refused write that leaves its temporary file.
     ((&[4], 0), &["make /o", "make /o/pack"], HEADER_FAILS),
 ];

@@ -117,6 +117,7 @@ fn store_parts(alloc: Global) -> Result<StoreParts, Fail> {
         folders: PathList::new(alloc),
         object_hash: Kind::Sha1,
         replacements: Replacements::from_pairs(alloc, &[])?,
+        use_multi_pack_index: true,
         alloc_limit_bytes: None,
         slots: Slots::Given(1),
     })

@@ -1,5 +1,5 @@
 //! Rows of openings, each driven by its asks.
-use crate::listed_rows::ONE;
+use crate::listed_rows::{ONE, TOO_MANY};
 use crate::table::{Opening, check};
 use std::test::Fail;
 
@@ -10,10 +10,16 @@ const OPENINGS: &[&str] = &[
     "opening /absent | look! /absent; refused: the objects directory is not a directory",
 ];
 
+const TOO_MANY_PACKS: &[&str] = &[
+    "opening /o | look! /o; open /o/pack; next; next; close; read /o/pack/multi-pack-index; refused: /o/pack/multi-pack-index names 65536 packs, and 65535 are the most",
+];
+
 /// The tables, each with the mistakes that it would catch.
 const TABLES: &[(Opening, &[&str], &[&str])] = &[
     // An opening that counts other slots than the indices, or is done before its handle is registered.
     ((&[], 0), ONE, OPENINGS),
+    // One that counts a multi-pack index that no store uses, or reports another error.
+    ((&[], 0), TOO_MANY, TOO_MANY_PACKS),
 ];
 
 #[test]

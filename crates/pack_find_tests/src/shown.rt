@@ -70,12 +70,19 @@ pub fn put_event(text: &mut Text, event: &Event) {
     }
 }
 
-/// Appends the rows of a listing to a text, each with its length.
+/// Appends the rows of a listing to a text, each with its length, and for a multi-pack index with its packs.
 pub fn put_rows(text: &mut Text, rows: &[ListingRow]) {
     text.next("rows");
     for row in rows {
         text.marked(" ", &row.path);
         text.marked(" ", row.len);
+        put_packs(text, row);
+    }
+}
+
+fn put_packs(text: &mut Text, row: &ListingRow) {
+    if let Some(file) = &row.multi {
+        text.marked("*", u64::from(file.value().num_indices()));
     }
 }
 

@@ -1,8 +1,9 @@
 //! A disk in memory and a core, on which the rows of a table are played.
 //!
-//! `list FOLDER ..` lists folders, the objects directory first, and shows the calls and the rows; `order FOLDER ..`
-//! shows the rows in the order in which they are tried; `publish FOLDER ..` publishes them, and shows what is to be
-//! loaded. `find WORD`, `header WORD` and `has WORD` seek an id, or the blob of a word, `find WORD LIMIT` within a
+//! `list FOLDER ..` lists folders, the objects directory first, and shows the calls and the rows; `plain FOLDER ..` without
+//! multi-pack indices, `limited BYTES FOLDER ..` with those of so many bytes, and `swapped TARGET FOLDER ..` while each file that
+//! is read becomes a link before; `order FOLDER ..` shows the rows in the order in
+//! which they are tried; `publish FOLDER ..` publishes them, and shows what is to be loaded. `find WORD`, `header WORD` and `has WORD` seek an id, or the blob of a word, `find WORD LIMIT` within a
 //! limit, and show the calls, the events and the end. `opening FOLDER` opens a store and shows its calls, the slots with
 //! which its handle is registered, and its reply; `opening FOLDER PERCENT MINIMUM` with this percentage of its indices
 //! as slots, and at least the minimum. `call find WORD`, `call header WORD`, `call has WORD` and `call write WORD` make
@@ -10,7 +11,7 @@
 use crate::calls::put_call;
 use crate::disks::change;
 use crate::happening::happen;
-use crate::listing::{publish, put_list, put_order};
+use crate::listing::{USED, publish, put_limited, put_list, put_order, put_swapped};
 use crate::openings::put_opening;
 use crate::trying::put_tried;
 use gix_odb_core::{Core, Event};
@@ -28,7 +29,10 @@ fn put_told(
 ) -> Result<(), Fail> {
     let (verb, rest) = cut(line);
     match verb {
-        "list" => put_list(alloc, disk, rest, text),
+        "list" => put_list(alloc, disk, rest, USED, text),
+        "plain" => put_list(alloc, disk, rest, None, text),
+        "limited" => put_limited(alloc, disk, rest, text),
+        "swapped" => put_swapped(alloc, disk, rest, text),
         "order" => put_order(alloc, disk, rest, text),
         "publish" => publish(alloc, disk, core, rest, text),
         "call" => put_call(alloc, disk, core, rest, text),

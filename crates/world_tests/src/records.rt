@@ -129,6 +129,48 @@ const VANISHED_JOURNAL: &str = "\
     1 0 register seen; 2 0 look seen; 3 0 publish published; \
     4 0 pass-over 0 /o/pack/pack-a.idx Absent seen; 5 0 look seen";
 
+// A store of one slot, with a multi-pack index of two packs, of which the second is there. Its object is found. Then the multi-pack index is
+// rewritten without the first pack, a miss lists that, and the same object is found in it.
+const MULTI: &str = "\
+    do mkdir /o|- true 0\n\
+    do mkdir /o/pack|- true 0\n\
+    do put /o/pack/multi-pack-index 1 @midx:pack-a=blob:76657273696f6e20310a;pack-b=blob:68656c6c6f0a|- true 0\n\
+    do put /o/pack/pack-b.pack 1 @pack:blob:68656c6c6f0a|- true 0\n\
+    open 0 /o slots=1|- false 0\n\
+    turn 0|Look /o false false 0\n\
+    turn 0|core 0 1 false 0\n\
+    find 0 ce013625030ba8dba906f756967f9e9ca394464a|- false 0\n\
+    turn 0|core 0 2 false 0\n\
+    turn 0|OpenDir /o/pack false false 0\n\
+    turn 0|NextEntry /o/pack false false 0\n\
+    turn 0|NextEntry /o/pack false false 0\n\
+    turn 0|NextEntry /o/pack false false 0\n\
+    turn 0|CloseDir /o/pack false false 0\n\
+    turn 0|Read /o/pack/multi-pack-index false false 0\n\
+    turn 0|core 0 3 false 0\n\
+    turn 0|Read /o/pack/pack-b.pack false false 0\n\
+    turn 0|core 0 4 false 0\n\
+    do put /o/pack/multi-pack-index 2 @midx:pack-b=blob:68656c6c6f0a|- true 0\n\
+    find 0 0000000000000000000000000000000000000001|- false 0\n\
+    turn 0|Read /o/00/00000000000000000000000000000000000001 false false 0\n\
+    turn 0|core 0 5 false 0\n\
+    turn 0|OpenDir /o/pack false false 0\n\
+    turn 0|NextEntry /o/pack false false 0\n\
+    turn 0|NextEntry /o/pack false false 0\n\
+    turn 0|NextEntry /o/pack false false 0\n\
+    turn 0|CloseDir /o/pack false false 0\n\
+    turn 0|Read /o/pack/multi-pack-index false false 0\n\
+    turn 0|core 0 6 false 0\n\
+    turn 0|Read /o/00/00000000000000000000000000000000000001 false false 0\n\
+    turn 0|core 0 7 false 0\n\
+    find 0 ce013625030ba8dba906f756967f9e9ca394464a|- false 0\n\
+    turn 0|Read /o/pack/pack-b.pack false false 0\n\
+    turn 0|core 0 8 false 0";
+
+const MULTI_JOURNAL: &str = "\
+    1 0 register seen; 2 0 look seen; 3 0 publish published; 4 0 put-pack 0:1 /o/pack/pack-b.pack stored; \
+    5 0 look seen; 6 0 publish published; 7 0 look seen; 8 0 put-pack 0:0 /o/pack/pack-b.pack stored";
+
 fn event_name(event: &Event) -> &'static str {
     match event {
         Event::Register { stable: false } => "register",
@@ -141,10 +183,13 @@ fn event_name(event: &Event) -> &'static str {
 
 fn pack_put_shown(alloc: Global, pack: PackId, path: &PathText) -> Result<String, AllocError> {
     let slot = pack.index;
-    format!(in alloc; "put-pack {slot} {path}")
+    match pack.multipack_index {
+        Some(place) => format!(in alloc; "put-pack {slot}:{place} {path}"),
+        None => format!(in alloc; "put-pack {slot} {path}"),
+    }
 }
 
-/// An event as a word, with the slot and the path of a file.
+/// An event as a word, with the slot and the path of a file, and the place of a pack in a multi-pack index.
 fn event_shown(alloc: Global, event: &Event) -> Result<String, AllocError> {
     match event {
         Event::PutIndex { slot, path, .. } => format!(in alloc; "put-index {slot} {path}"),
@@ -204,13 +249,18 @@ fn records_what_each_step_did(rt: HostRuntime) -> Result<(), Fail> {
     check_journals(rt.alloc(), &run, JOURNALS)
 }
 
-/// The run of these rows after those of the store with one pack; its records and its one journal are compared.
-fn check_listed(alloc: Global, rows: &str, journal: &str) -> Result<Run, Fail> {
-    let rows = format!(in alloc; "{LISTED}\n{rows}")?;
-    let run = run_of(alloc, &[], rows.as_str())?;
-    check_records(alloc, &run, rows.as_str())?;
+/// The run of these rows; its records and its one journal are compared.
+fn check_recorded(alloc: Global, rows: &str, journal: &str) -> Result<Run, Fail> {
+    let run = run_of(alloc, &[], rows)?;
+    check_records(alloc, &run, rows)?;
     check_journals(alloc, &run, journal)?;
     Ok(run)
+}
+
+/// The run of these rows after those of the store with one pack.
+fn check_listed(alloc: Global, rows: &str, journal: &str) -> Result<Run, Fail> {
+    let rows = format!(in alloc; "{LISTED}\n{rows}")?;
+    check_recorded(alloc, rows.as_str(), journal)
 }
 
 // A file that is stored without an entry, in another slot or under another path, an index that is passed over without
@@ -220,5 +270,14 @@ fn records_what_is_done_with_files_of_packs(rt: HostRuntime) -> Result<(), Fail>
     let found = check_listed(rt.alloc(), FOUND, FOUND_JOURNAL)?;
     let vanished = check_listed(rt.alloc(), VANISHED, VANISHED_JOURNAL)?;
     assert!(rt; found.journals.len() == 1 && vanished.journals.len() == 1);
+    Ok(())
+}
+
+// A multi-pack index that is read at the stat of an index, or loaded by an entry of its own; a pack that is stored under another place, or under
+// the one that the multi-pack index gave it before.
+#[test]
+fn records_packs_of_multi_pack_indices(rt: HostRuntime) -> Result<(), Fail> {
+    let run = check_recorded(rt.alloc(), MULTI, MULTI_JOURNAL)?;
+    assert!(rt; run.records.len() == 34 && run.journals.len() == 1);
     Ok(())
 }

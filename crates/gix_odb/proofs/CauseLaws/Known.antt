@@ -59,7 +59,7 @@ pub record Counts (exchanges : List Exchange) (head : LookHead) : Type 0 where
   pub begun : head.begun ≡ first_number exchanges
   pub own : head.own ≡ published_in exchanges
 
-module _ (Shown : Path → List ℕ → Type 0) (setting : Setting) (hash : Kind) (id : ObjectId)
+module _ (Shown : Path → ℕ → List ℕ → Type 0) (setting : Setting) (hash : Kind) (id : ObjectId)
     (exchanges : List Exchange) where
   -- Why the loose objects of a folder, or the lists of packs, refuse a look-up. Running out of memory refuses none.
   abbrev pub IsListCaused : Want → Error → Type 0

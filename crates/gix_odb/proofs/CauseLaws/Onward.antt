@@ -45,7 +45,7 @@ use Rattle.gix_odb.proofs.CauseLaws.Pasts.{Noted}
 use Rattle.gix_odb.proofs.CauseLaws.Known.{Counts, HasBegun, KnowsAt, ShowedPart, VerdictTells, bad_explained, found_explained}
 use Rattle.gix_odb.proofs.CauseLaws.Known.{not_found_explained, refusal_explained}
 
-module _ (Shown : Path → List ℕ → Type 0) (setting : Setting) (hash : Kind) (id : ObjectId)
+module _ (Shown : Path → ℕ → List ℕ → Type 0) (setting : Setting) (hash : Kind) (id : ObjectId)
     (exchanges : List Exchange) where
   abbrev Knows : LookHead → LookStage → Type 0
   Knows head stage = KnowsAt Shown setting hash id exchanges head stage
@@ -178,3 +178,4 @@ module _ (Shown : Path → List ℕ → Type 0) (setting : Setting) (hash : Kind
     by_listed-known purpose notes noted begun (listed.More lister) tells = (noted, begun, tells)
     by_listed-known purpose notes noted begun (listed.Listed listing) tells = (noted, begun)
     by_listed-known purpose notes noted begun listed.Broken tells = tells
+    by_listed-known purpose notes noted begun (listed.TooManyPacks actual path) tells = tells

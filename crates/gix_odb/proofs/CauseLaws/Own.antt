@@ -50,6 +50,7 @@ use Rattle.gix_odb.specs.declared.look_up.Part.{Part}
 use Rattle.gix_odb.specs.declared.look_up.Part.TheVariants as parts
 use Rattle.gix_odb.specs.declared.look_up.Purpose.{Purpose}
 use Rattle.gix_odb.specs.declared.look_up.Purpose.TheVariants as purposes
+use Rattle.gix_odb.specs.Store.{listed_for}
 
 -- ---- the number of the list that a stage is about, where `now` is the last that was answered
 
@@ -199,6 +200,7 @@ module _ (setting : Setting) (now : ℕ) where
     listed_owned purpose notes base (listed.More lister) same is = (omega (arith, is.0, same), omega (arith, is.1, same))
     listed_owned purpose notes base (listed.Listed listing) same is = (omega (arith, is.0, same), omega (arith, is.1, same))
     listed_owned purpose notes base listed.Broken same is = tt
+    listed_owned purpose notes base (listed.TooManyPacks actual path) same is = tt
 
 -- ---- an exchange
 
@@ -244,8 +246,8 @@ module _ (setting : Setting) (slots before : ℕ) (head : LookHead) where
             (omega (arith, is.0, later), omega arith)
         by (stages.Refreshing fronts.Reading purpose notes) (told.Core (Err refusal)) later asked numbered is = tt
         by (stages.Refreshing (fronts.Listing lister) purpose notes) (told.Disk answer) later asked numbered is =
-            listed_owned setting before head purpose notes lister.head.base (lists.fed setting.parts.folders lister answer)
-            (listing_keeps_its_base setting.parts.folders lister answer) is
+            listed_owned setting before head purpose notes lister.head.base (lists.fed (listed_for setting.parts) lister answer)
+            (listing_keeps_its_base (listed_for setting.parts) lister answer) is
         by (stages.Refreshing (fronts.Listing lister) purpose notes) (told.Core answer) later asked numbered is = (is.0, omega (arith, is.1))
         by (stages.Refreshing (fronts.Publishing listing) purpose notes) (told.Disk answer) later asked numbered is = is
         by (stages.Refreshing (fronts.Publishing listing) purpose notes) (told.Core (Ok effect)) later asked numbered is =

@@ -55,6 +55,7 @@ use Rattle.gix_odb.proofs.ListerLaws.Folders.{GoesToFolder, IsAtFolder, fed-goes
 use Rattle.gix_odb.proofs.CauseLaws.Replies.{EndsWell, found_replies, not_found_replies, refused_replies, verdict_ends_well}
 use Rattle.gix_odb.specs.Reply.{IsReplyTo}
 use Rattle.gix_odb_search.proofs.TrierLaws.{Comes, Fits, failed-passes, fed-comes, seek-comes}
+use Rattle.gix_odb.specs.Store.{listed_for}
 
 -- ---- what holds at each stage
 
@@ -210,6 +211,7 @@ module _ (setting : Setting) where
   listed_stands (listed.More lister) goes = goes
   listed_stands (listed.Listed listing) goes = tt
   listed_stands listed.Broken goes = tt
+  listed_stands (listed.TooManyPacks actual path) goes = tt
 
   published_stands : (listing : Listing) (effect : Effect) → StepStands setting (by_published listing effect)
   published_stands listing (effects.Published view) = tt
@@ -219,12 +221,12 @@ module _ (setting : Setting) where
 
   refresh_stands : (head : LookHead) (refresh : Refresh) (purpose : Purpose) (notes : Notes) (answer : Answer)
       → StandsAt setting head.want head.id (stages.Refreshing refresh purpose notes)
-      → StepStands setting (refreshes.fed setting.parts.objects setting.parts.folders refresh answer)
+      → StepStands setting (refreshes.fed setting.parts.objects (listed_for setting.parts) refresh answer)
   refresh_stands head fronts.Reading purpose notes (told.Disk answer) is = tt
   refresh_stands head fronts.Reading purpose notes (told.Core (Ok effect)) is = look_stands (view_shown effect)
   refresh_stands head fronts.Reading purpose notes (told.Core (Err refusal)) is = tt
   refresh_stands head (fronts.Listing lister) purpose notes (told.Disk answer) is =
-      listed_stands (lists.fed setting.parts.folders lister answer) (fed-goes setting lister is answer)
+      listed_stands (lists.fed (listed_for setting.parts) lister answer) (fed-goes setting lister is answer)
   refresh_stands head (fronts.Listing lister) purpose notes (told.Core answer) is = is
   refresh_stands head (fronts.Publishing listing) purpose notes (told.Disk answer) is = tt
   refresh_stands head (fronts.Publishing listing) purpose notes (told.Core (Ok effect)) is = published_stands listing effect
@@ -238,7 +240,7 @@ fed_at-stand setting head (stages.Trying trier part) answer is =
 fed_at-stand setting head (stages.Loose round call) (told.Disk answer) is = by_call-stand setting head round call is answer
 fed_at-stand setting head (stages.Loose round call) (told.Core answer) is = is
 fed_at-stand setting head (stages.Refreshing refresh purpose notes) answer is =
-    by_refresh-stand setting head purpose notes (refreshes.fed setting.parts.objects setting.parts.folders refresh answer)
+    by_refresh-stand setting head purpose notes (refreshes.fed setting.parts.objects (listed_for setting.parts) refresh answer)
     (refresh_stands setting head refresh purpose notes answer is)
 fed_at-stand setting head (stages.Checking list_no notes) (told.Disk answer) is = tt
 fed_at-stand setting head (stages.Checking list_no notes) (told.Core (Ok effect)) is = by_checked-stand setting head list_no notes (view_shown effect)
@@ -261,7 +263,7 @@ fed_at-head setting head (stages.Trying trier part) answer = (refl, refl)
 fed_at-head setting head (stages.Loose round call) (told.Disk answer) = (refl, refl)
 fed_at-head setting head (stages.Loose round call) (told.Core answer) = (refl, refl)
 fed_at-head setting head (stages.Refreshing refresh purpose notes) answer =
-    by_refresh-head setting head purpose notes (refreshes.fed setting.parts.objects setting.parts.folders refresh answer)
+    by_refresh-head setting head purpose notes (refreshes.fed setting.parts.objects (listed_for setting.parts) refresh answer)
 fed_at-head setting head (stages.Checking list_no notes) (told.Disk answer) = (refl, refl)
 fed_at-head setting head (stages.Checking list_no notes) (told.Core (Ok effect)) = (refl, refl)
 fed_at-head setting head (stages.Checking list_no notes) (told.Core (Err refusal)) = (refl, refl)

@@ -1,5 +1,5 @@
 -- What an exchange adds to what is known of a look-up.
-use Rattle.std.proofs.Common.{◌≡◌, ℕ, ◌+◌, ◌-◌, ◌<◌, Bool, true, false, List, Contains, Option, Some, None, Ok, Err, refl, sym, ap, subst}
+use Rattle.std.proofs.Common.{◌≡◌, ℕ, ◌+◌, ◌<◌, Bool, true, false, List, Contains, Option, Some, None, Ok, Err, refl, sym, ap, subst}
 use Rattle.std.specs.Prelude.{if◌then◌else◌}
 use Rattle.odb_base.specs.Path.{Path}
 use Rattle.odb_disk.specs.declared.ask.DiskAnswer.{DiskAnswer}
@@ -63,8 +63,9 @@ use Rattle.gix_odb.proofs.CauseLaws.Standing.{IsOfFolder, StandsAt}
 use Rattle.gix_odb.proofs.CauseLaws.Known.{Counts, HasBegun, KnowsAt, ShowedPart, folder_tells}
 use Rattle.gix_odb.proofs.CauseLaws.Known.{refusal_explained}
 use Rattle.gix_odb.proofs.CauseLaws.Onward.{by_checked-known, by_listed-known, by_look-known, by_tried-known, by_verdict-known, counted-known, try_view-known}
+use Rattle.gix_odb.specs.Store.{listed_for}
 
-module _ (Shown : Path → List ℕ → Type 0) (setting : Setting) (hash : Kind) (id : ObjectId)
+module _ (Shown : Path → ℕ → List ℕ → Type 0) (setting : Setting) (hash : Kind) (id : ObjectId)
     (exchanges : List Exchange) where
   abbrev Knows : LookHead → LookStage → Type 0
   Knows head stage = KnowsAt Shown setting hash id exchanges head stage
@@ -184,7 +185,7 @@ module _ (Shown : Path → List ℕ → Type 0) (setting : Setting) (hash : Kind
     listing-known lister purpose notes at knows (told.Disk answer) t =
         let stage : LookStage = stages.Refreshing (fronts.Listing lister) purpose notes in
         let truth = is_true stage (told.Disk answer) t (asks.Disk (lists.ask_of lister)) refl in
-        listing_counts (lists.fed setting.parts.folders lister answer) (quiet stage (told.Disk answer) t (asks.Disk (lists.ask_of lister)) refl refl)
+        listing_counts (lists.fed (listed_for setting.parts) lister answer) (quiet stage (told.Disk answer) t (asks.Disk (lists.ask_of lister)) refl refl)
         (listers.fed-tells setting exchanges lister at knows.2 answer truth.0
         (was_told stage (told.Disk answer) t (asks.Disk (lists.ask_of lister)) refl))
       where
@@ -193,6 +194,8 @@ module _ (Shown : Path → List ℕ → Type 0) (setting : Setting) (hash : Kind
         listing_counts (listed.More next) counts tells = (counts, by_listed-known Shown setting hash id exchanges head purpose notes knows.0 knows.1 (listed.More next) tells)
         listing_counts (listed.Listed listing) counts tells = (counts, by_listed-known Shown setting hash id exchanges head purpose notes knows.0 knows.1 (listed.Listed listing) tells)
         listing_counts listed.Broken counts tells = (counts, by_listed-known Shown setting hash id exchanges head purpose notes knows.0 knows.1 listed.Broken tells)
+        listing_counts (listed.TooManyPacks actual path) counts tells =
+            (counts, by_listed-known Shown setting hash id exchanges head purpose notes knows.0 knows.1 (listed.TooManyPacks actual path) tells)
     listing-known lister purpose notes at knows (told.Core answer) t =
         (quiet (stages.Refreshing (fronts.Listing lister) purpose notes) (told.Core answer) t (asks.Disk (lists.ask_of lister)) refl refl, knows)
 

@@ -32,19 +32,20 @@ use Rattle.gix_odb.specs.declared.look_up.LookStage.{LookStage}
 use Rattle.gix_odb.specs.declared.look_up.LookUp.{LookUp}
 use Rattle.gix_odb.proofs.FoundLaws.Known.{KnowsLook, KnowsLookStage, KnowsRefresh, KnowsReply, KnowsStage}
 use Rattle.gix_odb.proofs.ListerLaws.Lists.{has_first, has_later}
+use Rattle.gix_odb.proofs.ListingLaws.HandedRows.{rows_handed}
 use Rattle.gix_odb.proofs.FoundLaws.Looking.{begun_known, stage_known}
 pub use Rattle.gix_odb.proofs.FoundLaws.Known.{IsOfPack}
 
-module _ (Shown : Path → List ℕ → Type 0) (setting : Setting) (hash : Kind) (want : Want) (id : ObjectId) where
+module _ (Shown : Path → ℕ → List ℕ → Type 0) (setting : Setting) (hash : Kind) (want : Want) (id : ObjectId) where
   trier_hands : (stage : Stage) → KnowsStage Shown setting hash id stage → IsHandedBy Shown setting hash (tries.ask_at stage)
   trier_hands (tries_stages.Loading (loaders.Storing place file)) here = here
   trier_hands (tries_stages.StoringPack pack file) here = here.1
   trier_hands stage here = tt
 
-  refresh_hands : (refresh : Refresh) → KnowsRefresh setting refresh → IsHandedBy Shown setting hash (refreshes.ask_of refresh)
+  refresh_hands : (refresh : Refresh) → KnowsRefresh Shown setting refresh → IsHandedBy Shown setting hash (refreshes.ask_of refresh)
   refresh_hands fronts.Reading here = tt
   refresh_hands (fronts.Listing lister) here = tt
-  refresh_hands (fronts.Publishing listing) here = here
+  refresh_hands (fronts.Publishing listing) here = rows_handed Shown setting hash listing.rows here.0 here.1
 
   -- ---- after exchanges
 

@@ -3,7 +3,7 @@ use Rattle.std.proofs.Common.{◌≡◌, ◌⊎◌, ℕ, List, All, Contains, Re
 use Rattle.odb_base.specs.Path.{Path}
 use Rattle.gix_hash.specs.declared.kind.Kind.{Kind}
 use Rattle.gix_hash.specs.declared.object_id.ObjectId.{ObjectId}
-use Rattle.gix_odb_events.specs.PackPath.{pack_path}
+use Rattle.gix_odb_events.specs.declared.listing.ListingRow.{ListingRow}
 use Rattle.gix_odb_events.specs.declared.loaded.Todo.{Todo}
 use Rattle.gix_odb_search.specs.declared.goal.Error as goals
 use Rattle.gix_odb_search.specs.declared.goal.Found.{Found}
@@ -34,9 +34,12 @@ use Rattle.gix_odb.specs.Reply.{IsAnswer}
 use Rattle.gix_odb.specs.Found.{IsFound, IsInIndex}
 use Rattle.gix_odb.specs.LookUpOrder.{Setting, find_error, reply_found}
 use Rattle.gix_odb.specs.Shown.{IsIndexPath, IsIndexShownAt, IsIndexRow, IsPackShownAt, IsIndexShown, folders_of}
+use Rattle.gix_odb.specs.Store.{listed_for}
+use Rattle.gix_odb.specs.True.{ShowsRead}
 use Rattle.gix_odb.specs.declared.refresh.Refresh.{Refresh}
 use Rattle.gix_odb.specs.declared.refresh.Refresh.TheVariants as fronts
 use Rattle.gix_odb.proofs.ListerLaws.Known.{KnowsLister}
+use Rattle.gix_odb.proofs.ListingLaws.Seen.{AreSeen, SeesLister}
 use Rattle.gix_odb.specs.declared.look_up.LookHead.{LookHead}
 use Rattle.gix_odb.specs.declared.look_up.LookStage.{LookStage}
 use Rattle.gix_odb.specs.declared.look_up.LookStage.TheVariants as look_stages
@@ -63,7 +66,7 @@ module _ (setting : Setting) where
 
 -- ---- indices
 
-module _ (Shown : Path → List ℕ → Type 0) (setting : Setting) (hash : Kind) where
+module _ (Shown : Path → ℕ → List ℕ → Type 0) (setting : Setting) (hash : Kind) where
   -- the index that is loaded is at the path of one, and what is stored was shown there
   abbrev pub KnowsLoader : IndexLoader → Type 0
   KnowsLoader (loaders.Reading place) = IsIndexPath setting place.path
@@ -78,12 +81,10 @@ module _ (Shown : Path → List ℕ → Type 0) (setting : Setting) (hash : Kind
 
 -- ---- packs
 
-module _ (Shown : Path → List ℕ → Type 0) (setting : Setting) (hash : Kind) (id : ObjectId) where
-  -- a pack of the same name as an index that was shown is wanted, which gives the id the offset
-  pub record IsWanted (pack : WantedPack) : Type 0 where
-    pub path : Path
-    pub index : IsInIndex Shown setting hash id path pack.offset
-    pub is : pack.path ≡ pack_path path
+module _ (Shown : Path → ℕ → List ℕ → Type 0) (setting : Setting) (hash : Kind) (id : ObjectId) where
+  -- a pack is wanted in which an index that was shown gives the id the offset
+  abbrev pub IsWanted : WantedPack → Type 0
+  IsWanted pack = IsInIndex Shown setting hash id pack.path pack.offset
 
   -- what is still to be tried
   pub record KnowsAhead (ahead : Ahead) : Type 0 where
@@ -98,16 +99,20 @@ module _ (Shown : Path → List ℕ → Type 0) (setting : Setting) (hash : Kind
 
 -- ---- refreshes
 
-module _ (setting : Setting) where
-  -- the folders are listed, or rows of indices of the folders are to be published
+module _ (Shown : Path → ℕ → List ℕ → Type 0) (setting : Setting) where
+  -- the rows are of indices of the folders, and of multi-pack indices that were shown there
+  abbrev pub KnowsRows : List ListingRow → Type 0
+  KnowsRows rows = All (IsIndexRow setting) rows × AreSeen (ShowsRead Shown) (listed_for setting.parts) rows
+
+  -- the folders are listed, or such rows are to be published
   abbrev pub KnowsRefresh : Refresh → Type 0
   KnowsRefresh fronts.Reading = Unit {0}
-  KnowsRefresh (fronts.Listing lister) = KnowsLister setting lister
-  KnowsRefresh (fronts.Publishing listing) = All (IsIndexRow setting) listing.rows
+  KnowsRefresh (fronts.Listing lister) = KnowsLister setting lister × SeesLister (ShowsRead Shown) (listed_for setting.parts) lister
+  KnowsRefresh (fronts.Publishing listing) = KnowsRows listing.rows
 
 -- ---- look-ups
 
-module _ (Shown : Path → List ℕ → Type 0) (setting : Setting) (hash : Kind) (id : ObjectId) (exchanges : List Exchange)
+module _ (Shown : Path → ℕ → List ℕ → Type 0) (setting : Setting) (hash : Kind) (id : ObjectId) (exchanges : List Exchange)
     (want : Want) where
   abbrev pub IsFoundHere : Found → Type 0
   IsFoundHere found = IsFound Shown setting hash id want (reply_found found)
@@ -148,7 +153,7 @@ module _ (Shown : Path → List ℕ → Type 0) (setting : Setting) (hash : Kind
   abbrev pub KnowsLookStage : LookStage → Type 0
   KnowsLookStage (look_stages.Trying trier part) = KnowsTrier trier
   KnowsLookStage (look_stages.Loose round call) = KnowsLoose call
-  KnowsLookStage (look_stages.Refreshing refresh purpose notes) = KnowsRefresh setting refresh
+  KnowsLookStage (look_stages.Refreshing refresh purpose notes) = KnowsRefresh Shown setting refresh
   KnowsLookStage (look_stages.Checking list_no notes) = Unit {0}
   KnowsLookStage (look_stages.Done reply) = KnowsReply reply
 

@@ -15,19 +15,19 @@ use Rattle.gix_odb_search.specs.declared.index_loader.IndexLoader.TheVariants.{R
 use Rattle.gix_odb_search.specs.declared.index_loader.IndexPlace.{IndexPlace}
 use Rattle.gix_odb_search.specs.declared.index_loader.LoadStep.{LoadStep}
 use Rattle.gix_odb.specs.LookUpOrder.{Setting}
-use Rattle.gix_odb.specs.Shown.{IsIndexPath}
+use Rattle.gix_odb.specs.Shown.{IsIndexPath, ShowedBytes}
 use Rattle.gix_odb.specs.True.{IsTrue}
 use Rattle.gix_odb.proofs.FoundLaws.Known.{KnowsLoadStep, KnowsLoader}
 use Rattle.gix_odb.proofs.FoundLaws.Views.{index_shown, views_shown}
 
-module _ (Shown : Path → List ℕ → Type 0) (setting : Setting) (hash : Kind) where
+module _ (Shown : Path → ℕ → List ℕ → Type 0) (setting : Setting) (hash : Kind) where
   abbrev Stands : IndexLoader → Type 0
   Stands loader = KnowsLoader Shown setting hash loader
 
   abbrev Knows : LoadStep → Type 0
   Knows step = KnowsLoadStep Shown setting hash step
 
-  bytes_known : (place : IndexPlace) (bytes : List ℕ) → IsIndexPath setting place.path → Shown place.path bytes → (parsed : Bool)
+  bytes_known : (place : IndexPlace) (bytes : List ℕ) → IsIndexPath setting place.path → ShowedBytes Shown place.path bytes → (parsed : Bool)
       → is_index hash bytes ≡ parsed
       → Stands (cond parsed (Storing place (record { kind = hash; bytes = bytes })) (Passing place whys.Bad))
   bytes_known place bytes path shown true is = (path, record { kind = refl; parsed = is; shown = shown })
@@ -36,7 +36,7 @@ module _ (Shown : Path → List ℕ → Type 0) (setting : Setting) (hash : Kind
   read_known : (place : IndexPlace) (answer : DiskAnswer) → IsIndexPath setting place.path
       → IsTrue Shown setting hash (read_of place.path) (told.Disk answer)
       → Stands (index_read hash place answer)
-  read_known place (answers.File bytes time) path truth = bytes_known place bytes path truth.1 (is_index hash bytes) refl
+  read_known place (answers.File bytes time) path truth = bytes_known place bytes path (time, truth.1) (is_index hash bytes) refl
   read_known place answer path truth = tt
 
   pub load_known : (loader : IndexLoader) (answer : Answer) → Stands loader → IsTrue Shown setting hash (ask_of loader) answer

@@ -42,8 +42,8 @@ use Rattle.gix_odb.specs.LookUpOrder.{Setting, after_list, after_loose, ask_at, 
 use Rattle.gix_odb.specs.LookUpOrder.{by_tried, by_verdict, counted, ended, fed_at, goal_of, is_unsettled, listing_from}
 use Rattle.gix_odb.specs.LookUpOrder.{load_refused, loose_from, new_head, not_found, started, trier_fed, try_view, unsettled}
 use Rattle.gix_odb.specs.LookUpOrder.{own_by, view_shown, without_absent, without_notes}
-use Rattle.gix_odb.specs.Shown.{IsIndexRow, IsShownView, folders_of}
-use Rattle.gix_odb.specs.True.{IsTrue}
+use Rattle.gix_odb.specs.Shown.{IsShownView, folders_of}
+use Rattle.gix_odb.specs.True.{IsTrue, ShowsRead}
 use Rattle.gix_odb.specs.RefreshOrder.{by_listed, by_look, by_published}
 use Rattle.gix_odb.specs.RefreshOrder as refreshes
 use Rattle.gix_odb.specs.declared.refresh.Refresh.{Refresh}
@@ -59,15 +59,17 @@ use Rattle.gix_odb.specs.declared.look_up.Part.{Part}
 use Rattle.gix_odb.specs.declared.look_up.Part.TheVariants as parts
 use Rattle.gix_odb.specs.declared.look_up.Purpose.{Purpose}
 use Rattle.gix_odb.specs.declared.look_up.Purpose.TheVariants as purposes
-use Rattle.gix_odb.proofs.FoundLaws.Known.{IsIndexTodo, KnowsHead, KnowsLook, KnowsLookStage, KnowsLoose, KnowsRefresh, KnowsTried, KnowsTrier, goal_for}
+use Rattle.gix_odb.proofs.FoundLaws.Known.{IsIndexTodo, KnowsHead, KnowsLook, KnowsLookStage, KnowsLoose, KnowsRefresh, KnowsRows, KnowsTried, KnowsTrier, goal_for}
 use Rattle.gix_odb.proofs.ListerLaws.Known.{KnowsListStep}
 use Rattle.gix_odb.proofs.ListerLaws.Known.{fed_known, started_known}
 use Rattle.gix_odb.proofs.ListerLaws.Lists.{at_place, has_first, has_later}
+use Rattle.gix_odb.proofs.ListingLaws.Seen.{SeesStep, listing_sees, starts_seeing}
 use Rattle.gix_odb.proofs.FoundLaws.Replies.{EndsOther, found_reply, load_reply, loose_ends_other, loose_reply, missed_reply, pack_reply}
 use Rattle.gix_odb.proofs.FoundLaws.Trying.{answer_known, seek_known}
 use Rattle.gix_odb.proofs.FoundLaws.Views.{views_shown}
+use Rattle.gix_odb.specs.Store.{listed_for}
 
-module _ (Shown : Path → List ℕ → Type 0) (setting : Setting) (hash : Kind) (id : ObjectId) (exchanges : List Exchange)
+module _ (Shown : Path → ℕ → List ℕ → Type 0) (setting : Setting) (hash : Kind) (id : ObjectId) (exchanges : List Exchange)
     (want : Want) where
   abbrev Stands : LookStage → Type 0
   Stands stage = KnowsLookStage Shown setting hash id exchanges want stage
@@ -95,15 +97,19 @@ module _ (Shown : Path → List ℕ → Type 0) (setting : Setting) (hash : Kind
   loose_known : (head : LookHead) (part : Part) (notes : Notes) → Heads head → Stands (loose_from setting head part notes)
   loose_known head part notes known = folder_known head setting.parts.objects known (has_first setting.parts.objects setting.parts.folders)
 
+  -- a listing begins
+  listing_known : (base : ℕ) → KnowsRefresh Shown setting (refreshes.listing_from setting.parts.objects base)
+  listing_known base = (started_known setting base, starts_seeing (ShowsRead Shown) (listed_for setting.parts) setting.parts.objects base)
+
   after_list_known : (head : LookHead) (part : Part) (notes : Notes) → Heads head → Stands (after_list setting head part notes)
   after_list_known head parts.Snapshot notes known = loose_known head parts.Snapshot notes known
   after_list_known head (parts.List list_no true) notes known = loose_known head (parts.List list_no true) notes known
-  after_list_known head (parts.List list_no false) notes known = started_known setting list_no
+  after_list_known head (parts.List list_no false) notes known = listing_known list_no
   after_list_known head (parts.Published list_no) notes known = loose_known head (parts.Published list_no) notes known
 
   after_loose_known : (part : Part) (notes : Notes) → Stands (after_loose setting part notes)
   after_loose_known parts.Snapshot notes = tt
-  after_loose_known (parts.List list_no loose) notes = started_known setting list_no
+  after_loose_known (parts.List list_no loose) notes = listing_known list_no
   after_loose_known (parts.Published list_no) notes = tt
 
   -- ---- a list is tried
@@ -189,7 +195,7 @@ module _ (Shown : Path → List ℕ → Type 0) (setting : Setting) (hash : Kind
   check_known : (head : LookHead) (list_no : ℕ) (view : View) (notes : Notes) → Stands (by_check setting head list_no view notes)
   check_known head list_no view notes =
       chosen_known (view.list_no == list_no) (ended head.want notes) (counted setting head view.list_no (listing_from setting view.list_no notes))
-      (ended_known head.want notes) (counted_known head view.list_no (listing_from setting view.list_no notes) (started_known setting view.list_no))
+      (ended_known head.want notes) (counted_known head view.list_no (listing_from setting view.list_no notes) (listing_known view.list_no))
 
   checked_known : (head : LookHead) (list_no : ℕ) (notes : Notes) (view : Option View) → Stands (by_checked setting head list_no notes view)
   checked_known head list_no notes None = tt
@@ -198,7 +204,7 @@ module _ (Shown : Path → List ℕ → Type 0) (setting : Setting) (hash : Kind
   -- ---- the list of the core is read, or brought up to date
 
   abbrev StepKnown : RefreshStep → Type 0
-  StepKnown (steps.More refresh) = KnowsRefresh setting refresh
+  StepKnown (steps.More refresh) = KnowsRefresh Shown setting refresh
   StepKnown (steps.Read view) = IsView view
   StepKnown (steps.Current view own) = IsView view
   StepKnown (steps.Outdated list_no) = Unit {0}
@@ -206,40 +212,45 @@ module _ (Shown : Path → List ℕ → Type 0) (setting : Setting) (hash : Kind
 
   view_step : (view : View) (read : Bool) → IsView view → StepKnown (cond read (steps.Read view) (steps.More (refreshes.listing_from setting.parts.objects view.list_no)))
   view_step view true shown = shown
-  view_step view false shown = started_known setting view.list_no
+  view_step view false shown = listing_known view.list_no
 
   look_step : (view : Option View) → ((own : View) → view ≡ Some own → IsView own) → StepKnown (by_look setting.parts.objects view)
   look_step None views = tt
   look_step (Some view) views = view_step view view.read (views view refl)
 
-  listed_step : (step : ListStep) → KnowsListStep setting step → StepKnown (by_listed step)
-  listed_step (listed.More lister) here = here
-  listed_step (listed.Listed listing) here = here
-  listed_step listed.Broken here = tt
+  listed_step : (step : ListStep) → KnowsListStep setting step → SeesStep (ShowsRead Shown) (listed_for setting.parts) step → StepKnown (by_listed step)
+  listed_step (listed.More lister) here seen = (here, seen)
+  listed_step (listed.Listed listing) here seen = (here, seen)
+  listed_step listed.Broken here seen = tt
+  listed_step (listed.TooManyPacks actual path) here seen = tt
 
-  published_step : (listing : Listing) (effect : Effect) → All (IsIndexRow setting) listing.rows → ((own : View) → view_in (Ok effect) ≡ Some own → IsView own)
+  published_step : (listing : Listing) (effect : Effect) → KnowsRows Shown setting listing.rows → ((own : View) → view_in (Ok effect) ≡ Some own → IsView own)
       → StepKnown (by_published listing effect)
   published_step listing (effects.Published view) rows views = views view refl
   published_step listing (effects.Unchanged view) rows views = views view refl
   published_step listing (effects.Outdated list_no) rows views = tt
   published_step listing effect rows views = rows
 
-  fed_step : (refresh : Refresh) (ask : Ask) (answer : Answer) → KnowsRefresh setting refresh → IsTrue Shown setting hash ask answer
-      → StepKnown (refreshes.fed setting.parts.objects setting.parts.folders refresh answer)
-  fed_step fronts.Reading ask (told.Disk answer) here truth = tt
-  fed_step fronts.Reading ask (told.Core (Ok effect)) here truth = look_step (view_shown effect) (views_shown Shown setting hash ask (Ok effect) truth)
-  fed_step fronts.Reading ask (told.Core (Err refusal)) here truth = tt
-  fed_step (fronts.Listing lister) ask (told.Disk answer) here truth = listed_step (lists.fed setting.parts.folders lister answer) (fed_known setting lister answer here)
-  fed_step (fronts.Listing lister) ask (told.Core answer) here truth = here
-  fed_step (fronts.Publishing listing) ask (told.Disk answer) here truth = here
-  fed_step (fronts.Publishing listing) ask (told.Core (Ok effect)) here truth =
+  fed_step : (refresh : Refresh) (ask : Ask) (answer : Answer) → KnowsRefresh Shown setting refresh → refreshes.ask_of refresh ≡ ask
+      → IsTrue Shown setting hash ask answer
+      → StepKnown (refreshes.fed setting.parts.objects (listed_for setting.parts) refresh answer)
+  fed_step fronts.Reading ask (told.Disk answer) here is truth = tt
+  fed_step fronts.Reading ask (told.Core (Ok effect)) here is truth = look_step (view_shown effect) (views_shown Shown setting hash ask (Ok effect) truth)
+  fed_step fronts.Reading ask (told.Core (Err refusal)) here is truth = tt
+  fed_step (fronts.Listing lister) ask (told.Disk answer) here is truth =
+      listed_step (lists.fed (listed_for setting.parts) lister answer) (fed_known setting lister answer here.0)
+      (listing_sees (ShowsRead Shown) (listed_for setting.parts) lister.head here.1.rows lister.stage here.1.stage answer
+      (subst (λ (a : Ask). IsTrue Shown setting hash a (told.Disk answer)) (sym is) truth).1)
+  fed_step (fronts.Listing lister) ask (told.Core answer) here is truth = here
+  fed_step (fronts.Publishing listing) ask (told.Disk answer) here is truth = here
+  fed_step (fronts.Publishing listing) ask (told.Core (Ok effect)) here is truth =
       published_step listing effect here (views_shown Shown setting hash ask (Ok effect) truth)
-  fed_step (fronts.Publishing listing) ask (told.Core (Err refusal)) here truth = tt
+  fed_step (fronts.Publishing listing) ask (told.Core (Err refusal)) here is truth = tt
 
   read_known : (head : LookHead) (purpose : Purpose) (view : View) (notes : Notes) → Heads head → IsView view → Stands (by_read setting head purpose view notes)
   read_known head (purposes.First loose) view notes known shown =
       try_known head (parts.List view.list_no loose) view view.todo notes known shown shown.todo
-  read_known head purposes.Again view notes known shown = started_known setting view.list_no
+  read_known head purposes.Again view notes known shown = listing_known view.list_no
 
   own_known : (head : LookHead) (own : Bool) → Heads head → Heads (own_by head own)
   own_known head true known = record { want_is = known.want_is; id_is = known.id_is }
@@ -285,7 +296,8 @@ module _ (Shown : Path → List ℕ → Type 0) (setting : Setting) (hash : Kind
   stage_known same head (stages.Loose round call) ask (told.Disk answer) known here asks truth asked =
       record { head = known; stage = call_known head round call ask answer known here asks asked }
   stage_known same head (stages.Refreshing refresh purpose notes) ask answer known here asks truth asked =
-      refresh_known head purpose notes (refreshes.fed setting.parts.objects setting.parts.folders refresh answer) known (fed_step refresh ask answer here truth)
+      refresh_known head purpose notes (refreshes.fed setting.parts.objects (listed_for setting.parts) refresh answer) known
+      (fed_step refresh ask answer here (same_Some (refreshes.ask_of refresh) ask asks) truth)
   stage_known same head (stages.Checking list_no notes) ask (told.Core (Ok effect)) known here asks truth asked =
       record { head = known; stage = checked_known head list_no notes (view_shown effect) }
   stage_known same head (stages.Checking list_no notes) ask (told.Core (Err refusal)) known here asks truth asked =

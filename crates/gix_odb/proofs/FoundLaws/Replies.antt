@@ -58,7 +58,7 @@ loose_ends_other Object path limit answer = find_ends_other (found_by path limit
 loose_ends_other Header path limit answer = header_ends_other (header_by path answer)
 loose_ends_other Presence path limit answer = test_ends_other (tested_by path answer)
 
-module _ (Shown : Path → List ℕ → Type 0) (setting : Setting) (hash : Kind) (id : ObjectId) (exchanges : List Exchange)
+module _ (Shown : Path → ℕ → List ℕ → Type 0) (setting : Setting) (hash : Kind) (id : ObjectId) (exchanges : List Exchange)
     (want : Want) where
   abbrev Knows : Reply → Type 0
   Knows reply = KnowsReply Shown setting hash id exchanges want reply

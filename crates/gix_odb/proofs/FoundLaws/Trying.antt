@@ -40,14 +40,14 @@ use Rattle.gix_object.specs.declared.want.Want.{Want}
 use Rattle.gix_odb.specs.Caused.{IsNoPack, IsUnloaded}
 use Rattle.gix_odb.specs.LookExchanges.{Exchange, WasTold}
 use Rattle.gix_odb.specs.LookUpOrder.{Setting}
-use Rattle.gix_odb.specs.Shown.{IsPackShownAt, IsIndexShown, IsShownView}
+use Rattle.gix_odb.specs.Shown.{IsPackShownAt, IsIndexShown, IsShownView, ShowedBytes}
 use Rattle.gix_odb.specs.True.{IsTrue}
 use Rattle.gix_odb.proofs.FoundLaws.Known.{IsCausedHere, IsFoundHere, IsIndexTodo, IsWanted, KnowsAhead, KnowsGiven, KnowsLoadStep, KnowsStage, KnowsTried, goal_for}
 use Rattle.gix_odb.proofs.FoundLaws.Indices.{given_known, tried_known}
 use Rattle.gix_odb.proofs.FoundLaws.Loading.{load_known}
 use Rattle.gix_odb.proofs.FoundLaws.Views.{pack_loaded, views_shown}
 
-module _ (Shown : Path → List ℕ → Type 0) (setting : Setting) (hash : Kind) (id : ObjectId) (exchanges : List Exchange)
+module _ (Shown : Path → ℕ → List ℕ → Type 0) (setting : Setting) (hash : Kind) (id : ObjectId) (exchanges : List Exchange)
     (want : Want) where
   abbrev goal : Goal
   goal = goal_for setting want id
@@ -114,16 +114,10 @@ module _ (Shown : Path → List ℕ → Type 0) (setting : Setting) (hash : Kind
     unloaded : (pack : WantedPack) (answer : DiskAnswer) → IsWanted Shown setting hash id pack → WasTold exchanges (read_of pack.path) (told.Disk answer)
         → IsNoPack hash answer
         → IsUnloaded Shown setting hash id exchanges
-    unloaded pack answer wanted asked none = record {
-      path = wanted.path;
-      offset = pack.offset;
-      index = wanted.index;
-      answer = answer;
-      told = subst (λ (path : Path). WasTold exchanges (read_of path) (told.Disk answer)) wanted.is asked;
-      none = none;
-    }
+    unloaded pack answer wanted asked none =
+        record { path = pack.path; offset = pack.offset; index = wanted; answer = answer; told = asked; none = none }
 
-    pack_tested : (pack : WantedPack) (bytes : List ℕ) (time : ℕ) → IsWanted Shown setting hash id pack → Shown pack.path bytes
+    pack_tested : (pack : WantedPack) (bytes : List ℕ) (time : ℕ) → IsWanted Shown setting hash id pack → ShowedBytes Shown pack.path bytes
         → WasTold exchanges (read_of pack.path) (told.Disk (answers.File bytes time))
         → (parsed : Bool)
         → is_pack (kind_of id) bytes ≡ parsed
@@ -138,7 +132,8 @@ module _ (Shown : Path → List ℕ → Type 0) (setting : Setting) (hash : Kind
         → IsTrue Shown setting hash (read_of pack.path) (told.Disk answer)
         → WasTold exchanges (read_of pack.path) (told.Disk answer)
         → Knows (pack_read goal ahead pack answer)
-    pack_read_known pack (answers.File bytes time) wanted truth asked = pack_tested pack bytes time wanted truth.1 asked (is_pack (kind_of id) bytes) refl
+    pack_read_known pack (answers.File bytes time) wanted truth asked =
+        pack_tested pack bytes time wanted (time, truth.1) asked (is_pack (kind_of id) bytes) refl
     pack_read_known pack (answers.Refused disk_errors.Absent) wanted truth asked = at_known ahead (stages.PassingPack pack) known tt
     pack_read_known pack (answers.Refused disk_errors.WrongKind) wanted truth asked =
         unloaded pack (answers.Refused disk_errors.WrongKind) wanted asked (inr (inl refl))
@@ -159,8 +154,7 @@ module _ (Shown : Path → List ℕ → Type 0) (setting : Setting) (hash : Kind
         let own : FileBytes = unwrap_or (pack_behind pack effect) file in
         let own_read : IsPackShownAt Shown setting hash pack.path own = pack_loaded Shown setting hash pack file read (view_in (Ok effect)) views in
         given_ends (given_by want setting.parts.alloc_limit_bytes own pack.offset)
-        (given_known Shown setting hash id exchanges wanted.path pack.offset wanted.index own
-        (subst (λ (path : Path). IsPackShownAt Shown setting hash path own) wanted.is own_read) want)
+        (given_known Shown setting hash id exchanges pack.path pack.offset wanted own own_read want)
 
     -- ---- an answer
 

@@ -27,7 +27,7 @@ use Rattle.gix_odb.specs.True.{IsTrue}
 use Rattle.gix_odb.proofs.ListerLaws.Lists.{find_passes}
 
 -- a true answer of the core passes only what was shown
-pub views_shown : (Shown : Path → List ℕ → Type 0) (setting : Setting) (hash : Kind)
+pub views_shown : (Shown : Path → ℕ → List ℕ → Type 0) (setting : Setting) (hash : Kind)
     (ask : Ask) (answer : Result Effect Refusal) → IsTrue Shown setting hash ask (told.Core answer)
     → (view : View)
     → view_in answer ≡ Some view
@@ -36,7 +36,7 @@ views_shown Shown setting hash (asks.Disk ask) answer truth = absurd truth
 views_shown Shown setting hash (asks.Core event) answer truth = truth
 views_shown Shown setting hash (asks.NewCore slots folders) answer truth = truth
 
-module _ (Shown : Path → List ℕ → Type 0) (setting : Setting) (hash : Kind) where
+module _ (Shown : Path → ℕ → List ℕ → Type 0) (setting : Setting) (hash : Kind) where
   -- ---- an index
 
   abbrev Shows : SnapshotIndex → Type 0
@@ -44,14 +44,8 @@ module _ (Shown : Path → List ℕ → Type 0) (setting : Setting) (hash : Kind
 
   own_shown : (place : IndexPlace) (file : FileBytes) → IsIndexPath setting place.path → IsIndexShownAt Shown setting hash place.path file
       → Shows (own_index place file)
-  own_shown place file path there = record {
-    file = file;
-    single = refl;
-    at = path;
-    there = there;
-    one = refl;
-    packs = λ k d within. none k d within;
-  }
+  own_shown place file path there =
+      record { file = record { at = path; there = there }; are = refl; packs = λ k d within. none k d within }
     where
       none : All (IsPackShown Shown setting hash) (new_packs place.path None)
       none = All-cons (IsPackShown Shown setting hash) _ [] (λ read is. absurd (cc is)) (All-nil (IsPackShown Shown setting hash))

@@ -36,6 +36,7 @@ use Rattle.gix_odb.specs.declared.look_up.LookUp.{LookUp}
 use Rattle.gix_odb.proofs.HandedLaws.Stages.{Goes, Stands, Steps, same_ask, stage_stands, start_stands}
 use Rattle.gix_odb.proofs.ListerLaws.Streams.{HasNone, OpensNone, StreamBehind, StreamOf, Told, core_leaves_streams, listing_streams}
 use Rattle.gix_odb.proofs.ListerLaws.Streams.{none_stays_open, told_by}
+use Rattle.gix_odb.specs.Store.{listed_for}
 
 -- ---- a call of the disk that changes nothing
 
@@ -107,6 +108,7 @@ module _ (setting : Setting) where
   step_on now (listed.More lister) here = here
   step_on now (listed.Listed listing) here = (here, tt)
   step_on now listed.Broken here = here
+  step_on now (listed.TooManyPacks actual path) here = here
 
   looking : IsPlain (asks.Core events.Look)
   looking = record { changes = tt; opens = tt }
@@ -121,8 +123,8 @@ module _ (setting : Setting) where
   goes_on now (stages.Checking list_no notes) own ask answer is = none_by now ask answer (asks.Core events.Look) looking own is
   goes_on now (stages.Refreshing (fronts.Listing lister) purpose notes) own ask (told.Disk answer) is =
       subst (λ (a : Ask). GoesOn now a (told.Disk answer) (stages.Refreshing (fronts.Listing lister) purpose notes)) (same_Some _ ask is)
-      (step_on (told_by now (asks.Disk (lists.ask_of lister)) (told.Disk answer)) (lists.fed setting.parts.folders lister answer)
-      (listing_streams setting.parts.folders lister.head now lister.stage own answer))
+      (step_on (told_by now (asks.Disk (lists.ask_of lister)) (told.Disk answer)) (lists.fed (listed_for setting.parts) lister answer)
+      (listing_streams (listed_for setting.parts) lister.head now lister.stage own answer))
   goes_on now (stages.Refreshing (fronts.Listing lister) purpose notes) own ask (told.Core answer) is =
       subst (λ (a : Ask). GoesOn now a (told.Core answer) (stages.Refreshing (fronts.Listing lister) purpose notes)) (same_Some _ ask is)
       (core_leaves_streams now lister.head.folder lister.stage answer own)

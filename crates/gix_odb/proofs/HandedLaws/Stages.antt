@@ -50,6 +50,7 @@ use Rattle.gix_odb.specs.declared.look_up.Part.{Part}
 use Rattle.gix_odb.specs.declared.look_up.Part.TheVariants as parts
 use Rattle.gix_odb.specs.declared.look_up.Purpose.{Purpose}
 use Rattle.gix_odb.specs.declared.look_up.Purpose.TheVariants as purposes
+use Rattle.gix_odb.specs.Store.{listed_for}
 
 -- ---- what a stage asks
 
@@ -73,6 +74,7 @@ module _ (setting : Setting) (OfCall : FolderCall → Type 0) (OfLister : Lister
   Steps (listed.More lister) = OfLister lister
   Steps (listed.Listed listing) = Else × OfRows listing.rows
   Steps listed.Broken = Else
+  Steps (listed.TooManyPacks actual path) = Else
 
   -- a step of a refresh
   abbrev Refreshes : RefreshStep → Type 0
@@ -108,7 +110,7 @@ module _ (setting : Setting) (OfCall : FolderCall → Type 0) (OfLister : Lister
   -- what is to hold after an answer, for the next stage to keep it
   abbrev pub Goes : LookStage → Answer → Type 0
   Goes (stages.Loose round call) (told.Disk answer) = Else
-  Goes (stages.Refreshing (fronts.Listing lister) purpose notes) (told.Disk answer) = Steps (lists.fed setting.parts.folders lister answer)
+  Goes (stages.Refreshing (fronts.Listing lister) purpose notes) (told.Disk answer) = Steps (lists.fed (listed_for setting.parts) lister answer)
   Goes stage answer = Stands stage
 
   module _ (calls : (want : Want) (id : ObjectId) (folder : Path) → OfCall (asking setting.parts.alloc_limit_bytes want id folder))
@@ -193,6 +195,7 @@ module _ (setting : Setting) (OfCall : FolderCall → Type 0) (OfLister : Lister
     listed_refreshes (listed.More lister) here = here
     listed_refreshes (listed.Listed listing) here = here
     listed_refreshes listed.Broken here = here
+    listed_refreshes (listed.TooManyPacks actual path) here = here
 
     published_refreshes : (listing : Listing) (effect : Effect) → Else → OfRows listing.rows → Refreshes (by_published listing effect)
     published_refreshes listing (effects.Published view) here own = here
@@ -217,11 +220,11 @@ module _ (setting : Setting) (OfCall : FolderCall → Type 0) (OfLister : Lister
     refresh_stands head purpose notes (steps.Refused error) here = here
 
     refreshed : (refresh : Refresh) (purpose : Purpose) (notes : Notes) (answer : Answer) → Goes (stages.Refreshing refresh purpose notes) answer
-        → Refreshes (refreshes.fed setting.parts.objects setting.parts.folders refresh answer)
+        → Refreshes (refreshes.fed setting.parts.objects (listed_for setting.parts) refresh answer)
     refreshed fronts.Reading purpose notes (told.Disk answer) here = here
     refreshed fronts.Reading purpose notes (told.Core (Ok effect)) here = look_refreshes (view_shown effect) here
     refreshed fronts.Reading purpose notes (told.Core (Err refusal)) here = here
-    refreshed (fronts.Listing lister) purpose notes (told.Disk answer) here = listed_refreshes (lists.fed setting.parts.folders lister answer) here
+    refreshed (fronts.Listing lister) purpose notes (told.Disk answer) here = listed_refreshes (lists.fed (listed_for setting.parts) lister answer) here
     refreshed (fronts.Listing lister) purpose notes (told.Core answer) here = here
     refreshed (fronts.Publishing listing) purpose notes (told.Disk answer) here = here
     refreshed (fronts.Publishing listing) purpose notes (told.Core (Ok effect)) here = published_refreshes listing effect here.0 here.1
@@ -235,7 +238,7 @@ module _ (setting : Setting) (OfCall : FolderCall → Type 0) (OfLister : Lister
         verdict_stands head round (folder_verdict call answer) here
     stage_stands head (stages.Loose round call) (told.Core answer) here = here
     stage_stands head (stages.Refreshing refresh purpose notes) answer here =
-        refresh_stands head purpose notes (refreshes.fed setting.parts.objects setting.parts.folders refresh answer) (refreshed refresh purpose notes answer here)
+        refresh_stands head purpose notes (refreshes.fed setting.parts.objects (listed_for setting.parts) refresh answer) (refreshed refresh purpose notes answer here)
     stage_stands head (stages.Checking list_no notes) (told.Disk answer) here = here
     stage_stands head (stages.Checking list_no notes) (told.Core (Ok effect)) here = check_stands head list_no notes (view_shown effect) here
     stage_stands head (stages.Checking list_no notes) (told.Core (Err refusal)) here = here

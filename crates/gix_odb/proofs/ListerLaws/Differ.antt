@@ -1,6 +1,6 @@
 -- Lists of things of which no two are the same.
-use Rattle.std.proofs.Common.{◌≡◌, inl, inr, ℕ, ◌<◌, true, false, List, [], ◌∷◌, ◌++◌, slice_get, get_or, Contains, Some, refl, sym, ap, ◌∙◌}
-use Rattle.std.specs.List.{AllByRecursion, IsDistinct}
+use Rattle.std.proofs.Common.{◌≡◌, inl, inr, ℕ, ◌<◌, Bool, true, false, cond, List, [], ◌∷◌, ◌++◌, slice_get, get_or, Contains, Some, map, refl, sym, ap, ◌∙◌, subst}
+use Rattle.std.specs.List.{AllByRecursion, IsDistinct, filter}
 use Rattle.std.proofs.lemmas.Bool.{false_from_ne_true}
 use Rattle.std.proofs.lemmas.List.Elements.{Contains-append_cases, Contains-append_left, Contains-append_right}
 use Rattle.std.proofs.lemmas.Map.Keys.{apart_from_distinct}
@@ -8,6 +8,7 @@ use Rattle.std.proofs.lemmas.Option.{get_or_from_slice_get, slice_get_within}
 use Rattle.odb_base.specs.Path.{Path}
 use Rattle.gix_odb_events.specs.PackFiles.{same_path}
 use Rattle.gix_odb_events.proofs.SamePathLaws.{same_path-true, same_path-self}
+use Rattle.gix_odb_search.proofs.ReachLemmas.{first_or_later}
 use Rattle.gix_odb.proofs.ListerLaws.Lists.{has_first, has_later}
 
 abbrev pub Differ : {A : Type 0} → List A → Type 0
@@ -36,6 +37,30 @@ Differ-append (x ∷ xs) ys first later apart = (
   ],
   Differ-append xs ys first.1 later (λ a b here behind. apart a b (has_later x xs a here) behind),
 )
+
+-- what is kept by a test was there before
+kept_first : {A B : Type 0} (f : A → B) (test : A → Bool) (x : A) (xs : List A) → ((y : B) → Contains (map f (filter test xs)) y → Contains (map f xs) y)
+    → (b : Bool) (y : B) → Contains (map f (cond b (x ∷ filter test xs) (filter test xs))) y → Contains (map f (x ∷ xs)) y
+kept_first f test x xs more true y among =
+    elim (first_or_later (f x) (map f (filter test xs)) y among) [
+      | inl is ↦ subst (Contains (map f (x ∷ xs))) is (has_first (f x) (map f xs))
+      | inr later ↦ has_later (f x) (map f xs) y (more y later)
+    ]
+kept_first f test x xs more false y among = has_later (f x) (map f xs) y (more y among)
+
+kept_before : {A B : Type 0} (f : A → B) (test : A → Bool) (xs : List A) (y : B) → Contains (map f (filter test xs)) y → Contains (map f xs) y
+kept_before f test [] y among = among
+kept_before f test (x ∷ xs) y among = kept_first f test x xs (kept_before f test xs) (test x) y among
+
+-- those that pass a test differ, too, if their images do
+first_differs : {A B : Type 0} (f : A → B) (test : A → Bool) (x : A) (xs : List A) → ((y : B) → Contains (map f xs) y → ¬ (f x ≡ y))
+    → Differ (map f (filter test xs)) → (b : Bool) → Differ (map f (cond b (x ∷ filter test xs) (filter test xs)))
+first_differs f test x xs apart more true = (λ y among. apart y (kept_before f test xs y among), more)
+first_differs f test x xs apart more false = more
+
+pub Differ-filter : {A B : Type 0} (f : A → B) (test : A → Bool) (xs : List A) → Differ (map f xs) → Differ (map f (filter test xs))
+Differ-filter f test [] differ = tt
+Differ-filter f test (x ∷ xs) differ = first_differs f test x xs differ.0 (Differ-filter f test xs differ.1) (test x)
 
 -- ---- a last element
 

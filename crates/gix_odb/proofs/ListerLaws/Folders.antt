@@ -1,5 +1,5 @@
 -- A listing lists only the folders of its store.
-use Rattle.std.proofs.Common.{◌≡◌, ℕ, List, [], ◌∷◌, slice_get, Contains, Option, Some, None, refl, sym, ◌∙◌, arith}
+use Rattle.std.proofs.Common.{◌≡◌, ℕ, List, [], ◌∷◌, slice_get, Contains, Option, Some, None, is_some, refl, sym, ◌∙◌, arith}
 use Rattle.std.proofs.lemmas.List.Elements.{Contains-append_right}
 use Rattle.std.proofs.lemmas.Option.{slice_get_within, get_or_from_slice_get}
 use Rattle.odb_base.specs.Path.{Path}
@@ -12,8 +12,8 @@ use Rattle.odb_disk.specs.declared.meta.Kind.{Kind}
 use Rattle.odb_disk.specs.declared.meta.Kind.TheVariants as kinds
 use Rattle.odb_disk.specs.declared.meta.Meta.{Meta}
 use Rattle.gix_odb_events.specs.declared.listing.ListingRow.{ListingRow}
-use Rattle.gix_odb_search.specs.ListOrder.{at_paths, behind_folder, by_index, by_kind, by_pack, by_pack_kind, fed, fed_at, opened, read, with_row}
-use Rattle.gix_odb_search.specs.PackFolder.{index_paths, pack_folder}
+use Rattle.gix_odb_search.specs.ListOrder.{at_paths, behind_folder, by_index, by_kind, by_multi, by_pack, by_pack_kind, fed, fed_at, multi_row, opened, read, with_row}
+use Rattle.gix_odb_search.specs.PackFolder.{index_paths, multi_index_path, pack_folder}
 use Rattle.gix_odb_search.specs.ListOrder as lists
 use Rattle.gix_odb_search.specs.declared.lister.ListHead.{ListHead}
 use Rattle.gix_odb_search.specs.declared.lister.ListStage.{ListStage}
@@ -21,8 +21,11 @@ use Rattle.gix_odb_search.specs.declared.lister.ListStage.TheVariants as stages
 use Rattle.gix_odb_search.specs.declared.lister.ListStep.{ListStep}
 use Rattle.gix_odb_search.specs.declared.lister.ListStep.TheVariants as ends
 use Rattle.gix_odb_search.specs.declared.lister.Lister.{Lister}
-use Rattle.gix_odb.specs.Store.{Setting}
+use Rattle.gix_odb.specs.Store.{Setting, listed_for}
 use Rattle.gix_odb.specs.Shown.{folders_of}
+use Rattle.gix_odb_search.specs.declared.folders.IndexPath.{IndexPath}
+use Rattle.gix_odb_search.specs.declared.folders.IndexPath.TheVariants as files
+use Rattle.gix_odb_search.proofs.MultiReadLaws.{multi_leads}
 
 -- ---- the folders of a store
 
@@ -45,17 +48,19 @@ module _ (setting : Setting) where
   GoesToFolder (ends.More lister) = IsAtFolder lister.head
   GoesToFolder (ends.Listed listing) = Unit {0}
   GoesToFolder ends.Broken = Unit {0}
+  GoesToFolder (ends.TooManyPacks actual path) = Unit {0}
 
   behind_folder-goes : (head : ListHead) (next : Option Path) → slice_get setting.parts.folders head.next ≡ next → GoesToFolder (behind_folder head next)
   behind_folder-goes head None is = tt
   behind_folder-goes head (Some folder) is = (folder, later_folder setting head.next folder is, refl)
 
-  at_paths-goes : (head : ListHead) → IsAtFolder head → (paths : List Path) → GoesToFolder (at_paths setting.parts.folders head paths)
+  at_paths-goes : (head : ListHead) → IsAtFolder head → (paths : List IndexPath) → GoesToFolder (at_paths (listed_for setting.parts) head paths)
   at_paths-goes head at [] = behind_folder-goes head (slice_get setting.parts.folders head.next) refl
-  at_paths-goes head at (path ∷ left) = at
+  at_paths-goes head at (files.Single path ∷ left) = at
+  at_paths-goes head at (files.Multi ∷ left) = at
 
   module _ (head : ListHead) (at : IsAtFolder head) where
-    opened-goes : (answer : DiskAnswer) → GoesToFolder (opened setting.parts.folders head answer)
+    opened-goes : (answer : DiskAnswer) → GoesToFolder (opened (listed_for setting.parts) head answer)
     opened-goes (answers.Dir dir) = at
     opened-goes (answers.Refused disk_errors.Absent) = behind_folder-goes head (slice_get setting.parts.folders head.next) refl
     opened-goes answer = tt
@@ -65,33 +70,40 @@ module _ (setting : Setting) where
     read-goes dir entries answers.End = at
     read-goes dir entries answer = at
 
-    by_kind-goes : (path : Path) (left : List Path) (meta : Meta) (kind : Kind) → GoesToFolder (by_kind setting.parts.folders head path left meta kind)
+    by_kind-goes : (path : Path) (left : List IndexPath) (meta : Meta) (kind : Kind) → GoesToFolder (by_kind (listed_for setting.parts) head path left meta kind)
     by_kind-goes path left meta kinds.File = at
     by_kind-goes path left meta kind = at_paths-goes head at left
 
-    by_index-goes : (path : Path) (left : List Path) (answer : DiskAnswer) → GoesToFolder (by_index setting.parts.folders head path left answer)
+    by_index-goes : (path : Path) (left : List IndexPath) (answer : DiskAnswer) → GoesToFolder (by_index (listed_for setting.parts) head path left answer)
     by_index-goes path left (answers.Meta meta) = by_kind-goes path left meta meta.kind
     by_index-goes path left (answers.Refused disk_errors.Failed) = tt
     by_index-goes path left answer = at_paths-goes head at left
 
-    by_pack_kind-goes : (row : ListingRow) (left : List Path) (kind : Kind) → GoesToFolder (by_pack_kind setting.parts.folders head row left kind)
+    by_pack_kind-goes : (row : ListingRow) (left : List IndexPath) (kind : Kind) → GoesToFolder (by_pack_kind (listed_for setting.parts) head row left kind)
     by_pack_kind-goes row left kinds.File = at_paths-goes (with_row head row) at left
     by_pack_kind-goes row left kind = at_paths-goes head at left
 
-    by_pack-goes : (row : ListingRow) (left : List Path) (answer : DiskAnswer) → GoesToFolder (by_pack setting.parts.folders head row left answer)
+    by_pack-goes : (row : ListingRow) (left : List IndexPath) (answer : DiskAnswer) → GoesToFolder (by_pack (listed_for setting.parts) head row left answer)
     by_pack-goes row left (answers.Meta meta) = by_pack_kind-goes row left meta.kind
     by_pack-goes row left (answers.Refused disk_errors.Failed) = tt
     by_pack-goes row left answer = at_paths-goes head at left
 
-    fed_at-goes : (stage : ListStage) (answer : DiskAnswer) → GoesToFolder (fed_at setting.parts.folders head stage answer)
+    by_multi-goes : (left : List IndexPath) (answer : DiskAnswer) → GoesToFolder (by_multi (listed_for setting.parts) head left answer)
+    by_multi-goes left answer =
+        multi_leads GoesToFolder (listed_for setting.parts) head left answer
+        (λ bytes time is usable. at_paths-goes (with_row head (multi_row (multi_index_path head.folder) bytes time)) at left)
+        (λ bytes time is multi many. tt) (at_paths-goes head at left) (λ is. tt)
+
+    fed_at-goes : (stage : ListStage) (answer : DiskAnswer) → GoesToFolder (fed_at (listed_for setting.parts) head stage answer)
     fed_at-goes stages.Opening answer = opened-goes answer
     fed_at-goes (stages.Reading dir entries) answer = read-goes dir entries answer
-    fed_at-goes (stages.Closing dir entries) answer = at_paths-goes head at (index_paths head.folder entries)
+    fed_at-goes (stages.Closing dir entries) answer = at_paths-goes head at (index_paths (is_some (listed_for setting.parts).multi) head.folder entries)
     fed_at-goes (stages.Breaking dir) answer = tt
     fed_at-goes (stages.Index path left) answer = by_index-goes path left answer
     fed_at-goes (stages.Pack row left) answer = by_pack-goes row left answer
+    fed_at-goes (stages.Multi left) answer = by_multi-goes left answer
 
-  pub fed-goes : (lister : Lister) → IsAtFolder lister.head → (answer : DiskAnswer) → GoesToFolder (fed setting.parts.folders lister answer)
+  pub fed-goes : (lister : Lister) → IsAtFolder lister.head → (answer : DiskAnswer) → GoesToFolder (fed (listed_for setting.parts) lister answer)
   fed-goes lister at answer = fed_at-goes lister.head at lister.stage answer
 
 -- ---- what it opens
@@ -110,3 +122,4 @@ module _ (setting : Setting) (path : Path) where
   lister_opens_there head at (stages.Breaking dir) is = absurd (cc is)
   lister_opens_there head at (stages.Index other left) is = absurd (cc is)
   lister_opens_there head at (stages.Pack row left) is = absurd (cc is)
+  lister_opens_there head at (stages.Multi left) is = absurd (cc is)

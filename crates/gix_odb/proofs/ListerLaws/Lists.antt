@@ -1,6 +1,7 @@
 -- Elements of lists: what a search finds, what is at a place, and rows that are put in order.
-use Rattle.std.proofs.Common.{◌≡◌, ℕ, zero, suc, Bool, true, false, cond, List, [], ◌∷◌, map, All, Contains, slice_get, nat_lt, Some, refl, subst, arith}
-use Rattle.std.specs.List.{filter, find}
+use Rattle.std.proofs.Common.{◌≡◌, ℕ, zero, suc, ◌&&◌, Bool, true, false, cond, List, [], ◌∷◌, map, All, Contains, slice_get, nat_lt, Option, Some, None}
+use Rattle.std.proofs.Common.{refl, sym, ap, ◌∙◌, subst, arith}
+use Rattle.std.specs.List.{cons_option, filter, filter_map, find}
 use Rattle.std.proofs.lemmas.List.Elements.{All-cons, All-head, All-map, All-nil, All-tail, All-weaker, filter_passes}
 use Rattle.std.proofs.lemmas.Option.{slice_get_within, get_or_from_slice_get}
 use Rattle.gix_odb_events.specs.declared.listing.ListingRow.{ListingRow}
@@ -54,3 +55,17 @@ all_longest_first P rows all = all_put_rows P [] rows (All-nil P) all
 -- what holds of each element that passes a test holds of those that are kept by it
 pub all_kept : {A B : Type 0} (P : B → Type 0) (f : A → B) (p : A → Bool) → ((x : A) → p x ≡ true → P (f x)) → (xs : List A) → All P (map f (filter p xs))
 all_kept P f p each xs = All-map P f (filter p xs) (All-weaker (λ x. p x ≡ true) (λ x. P (f x)) each (filter p xs) (filter_passes p xs))
+
+-- ---- elements that are mapped, if they have a value
+
+pub filter_map-map : {A B C : Type 0} (f : B → Option C) (g : A → B) (xs : List A) → filter_map f (map g xs) ≡ filter_map (λ x. f (g x)) xs
+filter_map-map f g [] = refl
+filter_map-map {C = C} f g (x ∷ xs) = ap (λ (values : List C). cons_option (f (g x)) values) (filter_map-map f g xs)
+
+-- one that has none may be kept or left out
+pub kept_or_none : {A B : Type 0} (h : A → Option B) (x : A) (xs ys : List A) → filter_map h xs ≡ filter_map h ys → (one other : Bool)
+    → (one ≡ false → other ≡ true → h x ≡ None) → filter_map h (cond (one && other) (x ∷ xs) xs) ≡ filter_map h (cond other (x ∷ ys) ys)
+kept_or_none {B = B} h x xs ys more true true none = ap (λ (values : List B). cons_option (h x) values) more
+kept_or_none h x xs ys more true false none = more
+kept_or_none {B = B} h x xs ys more false true none = more ∙ ap (λ (o : Option B). cons_option o (filter_map h ys)) (sym (none refl refl))
+kept_or_none h x xs ys more false false none = more

@@ -1,5 +1,5 @@
 -- A listing changes nothing, and its calls on streams are on its own.
-use Rattle.std.proofs.Common.{◌≡◌, ℕ, List, None, refl}
+use Rattle.std.proofs.Common.{◌≡◌, List, None, refl}
 use Rattle.odb_base.specs.Path.{Path}
 use Rattle.odb_disk.specs.Ask.{change_of_ask}
 use Rattle.odb_disk.specs.declared.ask.DiskAsk.TheVariants as disk_asks
@@ -27,6 +27,7 @@ lister_reads folder (list_stages.Closing dir entries) tree = refl
 lister_reads folder (list_stages.Breaking dir) tree = refl
 lister_reads folder (list_stages.Index path left) tree = refl
 lister_reads folder (list_stages.Pack row left) tree = refl
+lister_reads folder (list_stages.Multi left) tree = refl
 
 -- ---- what is known of streams
 
@@ -54,3 +55,4 @@ lister_own now folder (list_stages.Closing dir entries) own = (folder, own)
 lister_own now folder (list_stages.Breaking dir) own = (folder, own)
 lister_own now folder (list_stages.Index path left) own = tt
 lister_own now folder (list_stages.Pack row left) own = tt
+lister_own now folder (list_stages.Multi left) own = tt

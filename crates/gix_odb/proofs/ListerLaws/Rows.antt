@@ -1,21 +1,25 @@
 -- The rows of a listing have different paths: no index of a folder is named twice, and putting rows in order keeps each once.
-use Rattle.std.proofs.Common.{◌≡◌, inl, inr, Bool, true, false, cond, nat_lt, List, [], ◌∷◌, ◌++◌, map, Contains, refl, sym, ap, ◌∙◌, subst, append-nil}
+use Rattle.std.proofs.Common.{◌≡◌, inl, inr, Bool, true, false, cond, not, ◌&&◌, ◌||◌, is_some, nat_lt, List, [], ◌∷◌, ◌++◌, map, Contains, refl, sym, ap, ◌∙◌, subst, append-nil}
 use Rattle.std.specs.List.{filter, list_any}
 use Rattle.std.specs.List.Sorted.{IsPermutation}
-use Rattle.std.proofs.lemmas.Bool.{or_parts}
+use Rattle.std.proofs.lemmas.Bool.{and_parts, or_parts}
 use Rattle.std.proofs.lemmas.Cmp.{lists_equiv, nat_list_eq_equiv}
 use Rattle.std.proofs.lemmas.List.Sorted.{IsPermutation-append_left, IsPermutation-cons, IsPermutation-map, IsPermutation-middle, IsPermutation-refl}
 use Rattle.std.proofs.lemmas.List.Sorted.{IsPermutation-sym, IsPermutation-trans}
 use Rattle.std.proofs.lemmas.Map.Keys.{IsDistinct-IsPermutation}
+use Rattle.std.specs.Cmp.Lexicographic.{bytes_decides}
 use Rattle.odb_base.specs.Path.{Name, Path, same_name}
 use Rattle.odb_disk.specs.declared.entry.Entry.{Entry}
 use Rattle.gix_odb_events.specs.PackFiles.{same_path, HasDifferentPaths}
 use Rattle.gix_odb_events.specs.declared.listing.ListingRow.{ListingRow}
 use Rattle.gix_odb_search.specs.LongestFirst.{longest_first, put_row, put_rows}
-use Rattle.gix_odb_search.specs.PackFolder.{firsts, firsts_without, index_paths, is_index_entry}
+use Rattle.gix_odb_search.specs.PackFolder.{firsts, firsts_without, index_path_in, index_paths, is_file, is_index_entry, is_index_name, is_multi_index_name, multi_index_name, multi_index_path, path_by}
 use Rattle.gix_odb_search.proofs.ReachLemmas.{first_or_later, none_in}
 use Rattle.gix_odb.proofs.ListerLaws.Lists.{has_first, has_later}
-use Rattle.gix_odb.proofs.ListerLaws.Differ.{Differ, IsDistinct-paths, push_same}
+use Rattle.gix_odb.proofs.ListerLaws.Differ.{Differ, Differ-filter, IsDistinct-paths, push_same}
+use Rattle.gix_odb_search.specs.declared.folders.IndexPath.{IndexPath}
+use Rattle.gix_odb_search.specs.declared.folders.IndexPath.TheVariants as files
+use Rattle.gix_odb_search.specs.MultiPack.{is_among, named_in, unnamed}
 
 -- ---- the entries of a folder, each by its first name
 
@@ -71,13 +75,44 @@ pub record IsOfName (folder : Path) (names : List Name) (path : Path) : Type 0 w
   pub among : Contains names name
   pub is : path ≡ folder ++ name ∷ []
 
-module _ (folder : Path) where
+-- the path of an index of a folder, or of its multi-pack index
+abbrev pub path_in : (folder : Path) → IndexPath → Path
+path_in folder (files.Single path) = path
+path_in folder files.Multi = multi_index_path folder
+
+module _ (multi : Bool) (folder : Path) where
   abbrev paths_of : List Entry → List Path
-  paths_of entries = map (λ (entry : Entry). folder ++ entry.name ∷ []) (filter is_index_entry entries)
+  paths_of entries = map (λ (entry : Entry). folder ++ entry.name ∷ []) (filter (is_index_entry multi) entries)
+
+  -- an entry is listed by its own name
+  own_name : (entry : Entry) → is_index_entry multi entry ≡ true → path_in folder (index_path_in folder entry) ≡ folder ++ entry.name ∷ []
+  own_name entry passes = by (is_index_name entry.name) refl
+    where
+      named : (is_index_name entry.name || (multi && is_multi_index_name entry.name)) ≡ true
+      named = (and_parts (is_file entry.kind) (is_index_name entry.name || (multi && is_multi_index_name entry.name)) passes).1
+
+      by : (index : Bool) → is_index_name entry.name ≡ index → path_in folder (path_by index folder entry.name) ≡ folder ++ entry.name ∷ []
+      by true is = refl
+      by false is =
+          let multi_named : (multi && is_multi_index_name entry.name) ≡ true = sym (ap (λ (b : Bool). b || (multi && is_multi_index_name entry.name)) is) ∙ named in
+          let same : same_name entry.name multi_index_name ≡ true = (and_parts multi (is_multi_index_name entry.name) multi_named).1 in
+          ap (λ (name : Name). folder ++ name ∷ []) (sym ((bytes_decides entry.name multi_index_name).0 same))
+
+  own_names : (entries : List Entry) → map (path_in folder) (map (index_path_in folder) (filter (is_index_entry multi) entries)) ≡ paths_of entries
+  own_names [] = refl
+  own_names (entry ∷ entries) = by (is_index_entry multi entry) refl (own_names entries)
+    where
+      kept : List Entry
+      kept = filter (is_index_entry multi) entries
+
+      by : (b : Bool) → is_index_entry multi entry ≡ b → map (path_in folder) (map (index_path_in folder) kept) ≡ map (λ (e : Entry). folder ++ e.name ∷ []) kept
+          → map (path_in folder) (map (index_path_in folder) (cond b (entry ∷ kept) kept)) ≡ map (λ (e : Entry). folder ++ e.name ∷ []) (cond b (entry ∷ kept) kept)
+      by true passes more = cc (own_name entry passes, more)
+      by false passes more = more
 
   abbrev first_path : Bool → Entry → List Entry → List Path
   first_path kept entry entries =
-      map (λ (e : Entry). folder ++ e.name ∷ []) (cond kept (entry ∷ filter is_index_entry entries) (filter is_index_entry entries))
+      map (λ (e : Entry). folder ++ e.name ∷ []) (cond kept (entry ∷ filter (is_index_entry multi) entries) (filter (is_index_entry multi) entries))
 
   abbrev AreNamed : List Name → List Path → Type 0
   AreNamed names paths = (path : Path) → Contains paths path → IsOfName folder names path
@@ -97,7 +132,7 @@ module _ (folder : Path) where
 
   paths_named : (entries : List Entry) → AreNamed (names_of entries) (paths_of entries)
   paths_named [] = λ path among. absurd (none_in path among)
-  paths_named (entry ∷ entries) = path_named entry entries (paths_named entries) (is_index_entry entry)
+  paths_named (entry ∷ entries) = path_named entry entries (paths_named entries) (is_index_entry multi entry)
 
   path_differs : (entry : Entry) (entries : List Entry) → Differ (names_of (entry ∷ entries)) → Differ (paths_of entries) → (b : Bool)
       → Differ (first_path b entry entries)
@@ -111,16 +146,17 @@ module _ (folder : Path) where
 
   paths_differ : (entries : List Entry) → Differ (names_of entries) → Differ (paths_of entries)
   paths_differ [] differ = tt
-  paths_differ (entry ∷ entries) differ = path_differs entry entries differ (paths_differ entries differ.1) (is_index_entry entry)
+  paths_differ (entry ∷ entries) differ = path_differs entry entries differ (paths_differ entries differ.1) (is_index_entry multi entry)
 
   -- the paths of the indices of a folder differ
-  pub index_paths_differ : (entries : List Entry) → Differ (index_paths folder entries)
-  index_paths_differ entries = paths_differ (firsts entries) (firsts_differ [] entries)
+  pub index_paths_differ : (entries : List Entry) → Differ (map (path_in folder) (index_paths multi folder entries))
+  index_paths_differ entries = subst Differ (sym (own_names (firsts entries))) (paths_differ (firsts entries) (firsts_differ [] entries))
 
   -- and each is of the folder
-  pub index_paths_of_folder : (entries : List Entry) (path : Path) → Contains (index_paths folder entries) path
+  pub index_paths_of_folder : (entries : List Entry) (path : Path) → Contains (map (path_in folder) (index_paths multi folder entries)) path
       → IsOfName folder (names_of (firsts entries)) path
-  index_paths_of_folder entries path among = paths_named (firsts entries) path among
+  index_paths_of_folder entries path among =
+      paths_named (firsts entries) path (subst (λ (paths : List Path). Contains paths path) (own_names (firsts entries)) among)
 
 -- ---- rows in order
 
@@ -151,3 +187,9 @@ pub HasDifferentPaths-longest_first : (rows : List ListingRow) → Differ (row_p
 HasDifferentPaths-longest_first rows differ =
     IsDistinct-IsPermutation same_path (lists_equiv nat_list_eq_equiv).symm (row_paths rows) (row_paths (longest_first rows))
     (IsPermutation-map (λ (row : ListingRow). row.path) rows (longest_first rows) (rows_put [] rows)) (IsDistinct-paths (row_paths rows) differ)
+
+-- so do those of the rows that are left
+pub HasDifferentPaths-listed : (rows : List ListingRow) → Differ (row_paths rows) → HasDifferentPaths (longest_first (unnamed rows))
+HasDifferentPaths-listed rows differ =
+    HasDifferentPaths-longest_first (unnamed rows)
+    (Differ-filter (λ (row : ListingRow). row.path) (λ row. is_some row.multi || not (is_among (named_in rows) row.path)) rows differ)

@@ -1,5 +1,5 @@
 -- A look-up reads and closes only the stream that it opened last, and has at most one open at a time.
-use Rattle.std.proofs.Common.{◌≡◌, ℕ, false, List, [], ◌∷◌, ◌++◌, slice_get, Option, Some, None, refl, sym, ap, ◌∙◌, subst}
+use Rattle.std.proofs.Common.{◌≡◌, ℕ, false, List, [], ◌∷◌, ◌++◌, slice_get, Option, Some, None, is_some, refl, sym, ap, ◌∙◌, subst}
 use Rattle.odb_base.specs.Path.{Path}
 use Rattle.odb_disk.specs.declared.ask.DiskAnswer.{DiskAnswer}
 use Rattle.odb_disk.specs.declared.ask.DiskAnswer.TheVariants as answers
@@ -10,8 +10,9 @@ use Rattle.odb_disk.specs.declared.meta.Kind.{Kind}
 use Rattle.odb_disk.specs.declared.meta.Kind.TheVariants as kinds
 use Rattle.gix_odb_events.specs.declared.listing.ListingRow.{ListingRow}
 use Rattle.gix_odb_events.specs.Answers as core
-use Rattle.gix_odb_search.specs.ListOrder.{ask_at, at_paths, behind_folder, by_index, by_kind, by_pack, by_pack_kind, fed_at, opened, read, with_row}
-use Rattle.gix_odb_search.specs.PackFolder.{index_paths}
+use Rattle.gix_odb_search.specs.ListOrder.{ask_at, at_paths, behind_folder, by_index, by_kind, by_multi, by_pack, by_pack_kind, fed_at, multi_row, opened, read}
+use Rattle.gix_odb_search.specs.ListOrder.{with_row}
+use Rattle.gix_odb_search.specs.PackFolder.{index_paths, multi_index_path}
 use Rattle.gix_odb_events.specs.declared.answer.Answer.{Answer}
 use Rattle.gix_odb_events.specs.declared.answer.Answer.TheVariants as told
 use Rattle.gix_odb_events.specs.declared.answer.Ask.{Ask}
@@ -24,6 +25,10 @@ use Rattle.gix_odb_search.specs.declared.lister.ListStep.TheVariants as ends
 use Rattle.gix_odb_search.specs.declared.lister.Lister.{Lister}
 use Rattle.gix_odb.specs.Exchange.{Exchange}
 use Rattle.gix_odb.specs.Stream.{Stream, reads, stream_by, stream_from, stream_in}
+use Rattle.gix_odb_search.specs.ListedStore.{ListedStore}
+use Rattle.gix_odb_search.specs.declared.folders.IndexPath.{IndexPath}
+use Rattle.gix_odb_search.specs.declared.folders.IndexPath.TheVariants as files
+use Rattle.gix_odb_search.proofs.MultiReadLaws.{multi_leads}
 
 -- ---- which stream exchanges opened
 
@@ -133,6 +138,7 @@ abbrev pub StreamBehind : Told → ListStep → Type 0
 StreamBehind now (ends.More lister) = StreamOf now lister
 StreamBehind now (ends.Listed listing) = HasNone now
 StreamBehind now ends.Broken = HasNone now
+StreamBehind now (ends.TooManyPacks actual path) = HasNone now
 
 -- ---- a call that opens no stream
 
@@ -151,23 +157,24 @@ none_stays_open before ask answer opens none = subst (λ (left : Option Opened).
 
 -- ---- an answer to a listing
 
-module _ (folders : List Path) (head : ListHead) where
+module _ (store : ListedStore) (head : ListHead) where
   -- after a stream that is closed, or that wasn't opened
   behind_has_none : (now : Told) → HasNone now → (own : ListHead) (next : Option Path) → StreamBehind now (behind_folder own next)
   behind_has_none now none own None = none
   behind_has_none now none own (Some folder) = none
 
-  paths_have_none : (now : Told) → HasNone now → (own : ListHead) (left : List Path) → StreamBehind now (at_paths folders own left)
-  paths_have_none now none own [] = behind_has_none now none own (slice_get folders own.next)
-  paths_have_none now none own (path ∷ left) = none
+  paths_have_none : (now : Told) → HasNone now → (own : ListHead) (left : List IndexPath) → StreamBehind now (at_paths store own left)
+  paths_have_none now none own [] = behind_has_none now none own (slice_get store.folders own.next)
+  paths_have_none now none own (files.Single path ∷ left) = none
+  paths_have_none now none own (files.Multi ∷ left) = none
 
   open_goes : (before : Told) → HasNone before → (answer : DiskAnswer)
-      → StreamBehind (told_by before (asks.Disk (disk_asks.OpenDir head.folder)) (told.Disk answer)) (opened folders head answer)
+      → StreamBehind (told_by before (asks.Disk (disk_asks.OpenDir head.folder)) (told.Disk answer)) (opened store head answer)
   open_goes before none (answers.Dir dir) =
       record { last = refl; left = refl; stream = record { folder = head.folder; dir = dir; entries = [] }; told = refl; of = refl; number = refl }
   open_goes before none (answers.Refused disk_errors.Absent) =
       behind_has_none (told_by before (asks.Disk (disk_asks.OpenDir head.folder)) (told.Disk (answers.Refused disk_errors.Absent))) none head
-      (slice_get folders head.next)
+      (slice_get store.folders head.next)
   open_goes before none answer = none
 
   -- the stream that exchanges show stays one of its folder while it is read
@@ -191,37 +198,45 @@ module _ (folders : List Path) (head : ListHead) where
   read_goes before dir entries here answers.End = read_open before dir entries here answers.End
   read_goes before dir entries here answer = read_open before dir entries here answer
 
-  index_goes : (now : Told) → HasNone now → (path : Path) (left : List Path) (answer : DiskAnswer)
-      → StreamBehind now (by_index folders head path left answer)
+  index_goes : (now : Told) → HasNone now → (path : Path) (left : List IndexPath) (answer : DiskAnswer)
+      → StreamBehind now (by_index store head path left answer)
   index_goes now none path left (answers.Meta meta) = by meta.kind
     where
-      by : (kind : Kind) → StreamBehind now (by_kind folders head path left meta kind)
+      by : (kind : Kind) → StreamBehind now (by_kind store head path left meta kind)
       by kinds.File = none
       by kind = paths_have_none now none head left
   index_goes now none path left (answers.Refused disk_errors.Failed) = none
   index_goes now none path left answer = paths_have_none now none head left
 
-  pack_goes : (now : Told) → HasNone now → (row : ListingRow) (left : List Path) (answer : DiskAnswer)
-      → StreamBehind now (by_pack folders head row left answer)
+  pack_goes : (now : Told) → HasNone now → (row : ListingRow) (left : List IndexPath) (answer : DiskAnswer)
+      → StreamBehind now (by_pack store head row left answer)
   pack_goes now none row left (answers.Meta meta) = by meta.kind
     where
-      by : (kind : Kind) → StreamBehind now (by_pack_kind folders head row left kind)
+      by : (kind : Kind) → StreamBehind now (by_pack_kind store head row left kind)
       by kinds.File = paths_have_none now none (with_row head row) left
       by kind = paths_have_none now none head left
   pack_goes now none row left (answers.Refused disk_errors.Failed) = none
   pack_goes now none row left answer = paths_have_none now none head left
 
+  multi_goes : (now : Told) → HasNone now → (left : List IndexPath) (answer : DiskAnswer) → StreamBehind now (by_multi store head left answer)
+  multi_goes now none left answer =
+      multi_leads (StreamBehind now) store head left answer
+      (λ bytes time is usable. paths_have_none now none (with_row head (multi_row (multi_index_path head.folder) bytes time)) left)
+      (λ bytes time is multi many. none) (paths_have_none now none head left) (λ is. none)
+
   pub listing_streams : (before : Told) (stage : ListStage) → StreamAt before head.folder stage → (answer : DiskAnswer)
-      → StreamBehind (told_by before (asks.Disk (ask_at head.folder stage)) (told.Disk answer)) (fed_at folders head stage answer)
+      → StreamBehind (told_by before (asks.Disk (ask_at head.folder stage)) (told.Disk answer)) (fed_at store head stage answer)
   listing_streams before stages.Opening here answer = open_goes before here answer
   listing_streams before (stages.Reading dir entries) here answer = read_goes before dir entries here answer
   listing_streams before (stages.Closing dir entries) here answer =
-      paths_have_none (told_by before (asks.Disk (disk_asks.CloseDir dir)) (told.Disk answer)) refl head (index_paths head.folder entries)
+      paths_have_none (told_by before (asks.Disk (disk_asks.CloseDir dir)) (told.Disk answer)) refl head (index_paths (is_some store.multi) head.folder entries)
   listing_streams before (stages.Breaking dir) here answer = refl
   listing_streams before (stages.Index path left) here answer =
       index_goes (told_by before (asks.Disk (disk_asks.Look path false)) (told.Disk answer)) here path left answer
   listing_streams before (stages.Pack row left) here answer =
       pack_goes (told_by before (asks.Disk (ask_at head.folder (stages.Pack row left))) (told.Disk answer)) here row left answer
+  listing_streams before (stages.Multi left) here answer =
+      multi_goes (told_by before (asks.Disk (disk_asks.Read (multi_index_path head.folder))) (told.Disk answer)) here left answer
 
 -- an answer of the core leaves the stream as it is
 pub core_leaves_streams : (before : Told) (folder : Path) (stage : ListStage) (answer : core.Answer) → StreamAt before folder stage
@@ -235,3 +250,4 @@ core_leaves_streams before folder (stages.Breaking dir) answer here =
     record { last = here.last; left = here.left; stream = here.stream; told = here.told; of = here.of; number = here.number }
 core_leaves_streams before folder (stages.Index path left) answer here = here
 core_leaves_streams before folder (stages.Pack row left) answer here = here
+core_leaves_streams before folder (stages.Multi left) answer here = here

@@ -1,6 +1,6 @@
 -- How many turns a listing of the folders of packs takes.
 use Rattle.std.proofs.Common.{◌≡◌, ℕ, suc, ◌+◌, ◌-◌, ◌*◌, ◌≤◌, ◌<◌, Bool, true, false, List}
-use Rattle.std.proofs.Common.{[], ◌∷◌, ◌++◌, length, cond, slice_get, Option, Some, None, refl, arith, length-append}
+use Rattle.std.proofs.Common.{[], ◌∷◌, length, cond, slice_get, Option, Some, None, is_some, refl, arith, length-append}
 use Rattle.std.proofs.Math.Nat.{mul-le-mul_right}
 use Rattle.std.specs.List.{filter, list_any}
 use Rattle.std.proofs.lemmas.List.{length-map}
@@ -14,8 +14,9 @@ use Rattle.odb_disk.specs.declared.meta.Kind.{Kind}
 use Rattle.odb_disk.specs.declared.meta.Kind.TheVariants as kinds
 use Rattle.odb_disk.specs.declared.meta.Meta.{Meta}
 use Rattle.gix_odb_events.specs.declared.listing.ListingRow.{ListingRow}
-use Rattle.gix_odb_search.specs.ListOrder.{ask_at, at_paths, behind_folder, by_index, by_kind, by_pack, by_pack_kind, fed, fed_at, opened, read, with_row}
-use Rattle.gix_odb_search.specs.PackFolder.{firsts, firsts_without, index_paths, is_index_entry}
+use Rattle.gix_odb_search.specs.ListOrder.{ask_at, at_paths, behind_folder, by_index, by_kind, by_multi, by_pack, by_pack_kind, fed, fed_at, multi_row, opened, read}
+use Rattle.gix_odb_search.specs.ListOrder.{with_row}
+use Rattle.gix_odb_search.specs.PackFolder.{firsts, firsts_without, index_path_in, index_paths, is_index_entry, multi_index_path}
 use Rattle.gix_odb_events.specs.declared.answer.Answer.TheVariants as told
 use Rattle.gix_odb_events.specs.declared.answer.Ask.TheVariants as asks
 use Rattle.gix_odb_search.specs.declared.lister.ListHead.{ListHead}
@@ -26,6 +27,10 @@ use Rattle.gix_odb_search.specs.declared.lister.ListStep.TheVariants as ends
 use Rattle.gix_odb_search.specs.declared.lister.Lister.{Lister}
 use Rattle.gix_odb.specs.Lap.{HasAtMost}
 use Rattle.gix_odb.specs.Stream.{Stream, opens, stream_by}
+use Rattle.gix_odb_search.specs.ListedStore.{ListedStore}
+use Rattle.gix_odb_search.specs.declared.folders.IndexPath.{IndexPath}
+use Rattle.gix_odb_search.specs.declared.folders.IndexPath.TheVariants as files
+use Rattle.gix_odb_search.proofs.MultiReadLaws.{multi_leads}
 
 -- ---- the indices of a folder are at most as many as its entries
 
@@ -49,23 +54,23 @@ length-firsts_without names (entry ∷ entries) =
     (length-firsts_without names entries)
     (length-firsts_without (entry.name ∷ names) entries)
 
-length-index_paths : (folder : Path) (entries : List Entry) → length (index_paths folder entries) ≤ length entries
-length-index_paths folder entries =
+length-index_paths : (multi : Bool) (folder : Path) (entries : List Entry) → length (index_paths multi folder entries) ≤ length entries
+length-index_paths multi folder entries =
     omega (
       arith,
-      length-map (filter is_index_entry (firsts entries)) (λ (entry : Entry). folder ++ entry.name ∷ []),
-      length-filter_entries is_index_entry (firsts entries),
+      length-map (filter (is_index_entry multi) (firsts entries)) (index_path_in folder),
+      length-filter_entries (is_index_entry multi) (firsts entries),
       length-firsts_without [] entries,
     )
 
-module _ (folders : List Path) (entries : ℕ) where
-  -- a folder is opened, its entries and its end are read, it is closed, and each index and its pack are statted
+module _ (store : ListedStore) (entries : ℕ) where
+  -- a folder is opened, its entries and its end are read, it is closed, and each index and its pack are statted, or the multi-pack index read
   abbrev pub folder_turns : ℕ
   folder_turns = 3 * entries + 3
 
   -- those of the folders that come next
   abbrev pub further : (next : ℕ) → ℕ
-  further next = (length folders - next) * folder_turns
+  further next = (length store.folders - next) * folder_turns
 
   abbrev stage_turns : ListStage → ℕ
   stage_turns stages.Opening = folder_turns
@@ -74,6 +79,7 @@ module _ (folders : List Path) (entries : ℕ) where
   stage_turns (stages.Breaking dir) = 1
   stage_turns (stages.Index path left) = 2 * length left + 2
   stage_turns (stages.Pack row left) = 2 * length left + 1
+  stage_turns (stages.Multi left) = 2 * length left + 1
 
   abbrev pub lister_turns : Lister → ℕ
   lister_turns lister = stage_turns lister.stage + further lister.head.next
@@ -102,52 +108,61 @@ module _ (folders : List Path) (entries : ℕ) where
   some_turns (stages.Breaking dir) = omega arith
   some_turns (stages.Index path left) = omega arith
   some_turns (stages.Pack row left) = omega arith
+  some_turns (stages.Multi left) = omega arith
 
   pub lister_turns-pos : (lister : Lister) → 0 < lister_turns lister
   lister_turns-pos lister = omega (arith, some_turns lister.stage)
 
   -- ---- what a listing does next
 
-  one_further : (next : ℕ) → next < length folders → folder_turns + further (next + 1) ≤ further next
+  one_further : (next : ℕ) → next < length store.folders → folder_turns + further (next + 1) ≤ further next
   one_further next within =
-      let fewer : 1 + (length folders - (next + 1)) ≤ length folders - next = omega arith in
-      let more : (1 + (length folders - (next + 1))) * folder_turns ≤ (length folders - next) * folder_turns = mul-le-mul_right folder_turns fewer in
+      let fewer : 1 + (length store.folders - (next + 1)) ≤ length store.folders - next = omega arith in
+      let more : (1 + (length store.folders - (next + 1))) * folder_turns ≤ (length store.folders - next) * folder_turns = mul-le-mul_right folder_turns fewer in
       omega (arith, more)
 
   module _ (turns : ℕ) (stream : Option Stream) (head : ListHead) where
-    folder_lists : (next : Option Path) → slice_get folders head.next ≡ next → further head.next ≤ turns → ListsFor turns stream (behind_folder head next)
+    folder_lists : (next : Option Path) → slice_get store.folders head.next ≡ next → further head.next ≤ turns → ListsFor turns stream (behind_folder head next)
     folder_lists None is room = tt
-    folder_lists (Some folder) is room = (tt, omega (arith, one_further head.next (slice_get_within folders head.next folder is)))
+    folder_lists (Some folder) is room = (tt, omega (arith, one_further head.next (slice_get_within store.folders head.next folder is)))
 
-    next_lists : further head.next ≤ turns → ListsFor turns stream (behind_folder head (slice_get folders head.next))
-    next_lists room = folder_lists (slice_get folders head.next) refl room
+    next_lists : further head.next ≤ turns → ListsFor turns stream (behind_folder head (slice_get store.folders head.next))
+    next_lists room = folder_lists (slice_get store.folders head.next) refl room
 
-    paths_list : (paths : List Path) → 2 * length paths + further head.next ≤ turns → ListsFor turns stream (at_paths folders head paths)
+    paths_list : (paths : List IndexPath) → 2 * length paths + further head.next ≤ turns → ListsFor turns stream (at_paths store head paths)
     paths_list [] room = next_lists (omega arith)
-    paths_list (path ∷ left) room = (tt, omega arith)
+    paths_list (files.Single path ∷ left) room = (tt, omega arith)
+    paths_list (files.Multi ∷ left) room = (tt, omega arith)
 
-    kind_lists : (path : Path) (left : List Path) (meta : Meta) (kind : Kind) → (2 * length left + 1) + further head.next ≤ turns
-        → ListsFor turns stream (by_kind folders head path left meta kind)
+    kind_lists : (path : Path) (left : List IndexPath) (meta : Meta) (kind : Kind) → (2 * length left + 1) + further head.next ≤ turns
+        → ListsFor turns stream (by_kind store head path left meta kind)
     kind_lists path left meta kinds.File room = (tt, room)
     kind_lists path left meta kind room = paths_list left (omega arith)
 
-    index_lists : (path : Path) (left : List Path) (answer : DiskAnswer) → (2 * length left + 1) + further head.next ≤ turns
-        → ListsFor turns stream (by_index folders head path left answer)
+    index_lists : (path : Path) (left : List IndexPath) (answer : DiskAnswer) → (2 * length left + 1) + further head.next ≤ turns
+        → ListsFor turns stream (by_index store head path left answer)
     index_lists path left (answers.Meta meta) room = kind_lists path left meta meta.kind room
     index_lists path left (answers.Refused disk_errors.Failed) room = tt
     index_lists path left answer room = paths_list left (omega arith)
 
   module _ (turns : ℕ) (stream : Option Stream) (head : ListHead) where
-    pack_kind_lists : (row : ListingRow) (left : List Path) (kind : Kind) → 2 * length left + further head.next ≤ turns
-        → ListsFor turns stream (by_pack_kind folders head row left kind)
+    pack_kind_lists : (row : ListingRow) (left : List IndexPath) (kind : Kind) → 2 * length left + further head.next ≤ turns
+        → ListsFor turns stream (by_pack_kind store head row left kind)
     pack_kind_lists row left kinds.File room = paths_list turns stream (with_row head row) left room
     pack_kind_lists row left kind room = paths_list turns stream head left room
 
-    pack_lists : (row : ListingRow) (left : List Path) (answer : DiskAnswer) → 2 * length left + further head.next ≤ turns
-        → ListsFor turns stream (by_pack folders head row left answer)
+    pack_lists : (row : ListingRow) (left : List IndexPath) (answer : DiskAnswer) → 2 * length left + further head.next ≤ turns
+        → ListsFor turns stream (by_pack store head row left answer)
     pack_lists row left (answers.Meta meta) room = pack_kind_lists row left meta.kind room
     pack_lists row left (answers.Refused disk_errors.Failed) room = tt
     pack_lists row left answer room = paths_list turns stream head left room
+
+    multi_lists : (left : List IndexPath) (answer : DiskAnswer) → 2 * length left + further head.next ≤ turns
+        → ListsFor turns stream (by_multi store head left answer)
+    multi_lists left answer room =
+        multi_leads (ListsFor turns stream) store head left answer
+        (λ bytes time is usable. paths_list turns stream (with_row head (multi_row (multi_index_path head.folder) bytes time)) left room)
+        (λ bytes time is multi many. tt) (paths_list turns stream head left room) (λ is. tt)
 
   -- ---- one turn
 
@@ -156,7 +171,7 @@ module _ (folders : List Path) (entries : ℕ) where
   counted stream head stage answer = stream_by stream (asks.Disk (ask_at head.folder stage)) (told.Disk answer)
 
   open_lists : (turns : ℕ) (head : ListHead) (answer : DiskAnswer) → (3 * entries + 2) + further head.next ≤ turns
-      → ListsFor turns (opens head.folder answer) (opened folders head answer)
+      → ListsFor turns (opens head.folder answer) (opened store head answer)
   open_lists turns head (answers.Dir dir) room = ((omega arith, omega arith), omega arith)
   open_lists turns head (answers.Refused disk_errors.Absent) room = next_lists turns None head (omega arith)
   open_lists turns head answer room = tt
@@ -178,22 +193,24 @@ module _ (folders : List Path) (entries : ℕ) where
       → IsCountedAt stream stage
       → HasAtMost entries (counted stream head stage answer)
       → stage_turns stage + further head.next ≤ turns + 1
-      → ListsFor turns (counted stream head stage answer) (fed_at folders head stage answer)
+      → ListsFor turns (counted stream head stage answer) (fed_at store head stage answer)
   fed_at_lists turns stream head stages.Opening answer few fits room = open_lists turns head answer (omega arith)
   fed_at_lists turns stream head (stages.Reading dir found) answer few fits room = read_lists turns stream head dir found answer few fits room
   fed_at_lists turns stream head (stages.Closing dir found) answer few fits room =
-      paths_list turns (counted stream head (stages.Closing dir found) answer) head (index_paths head.folder found)
-      (omega (arith, length-index_paths head.folder found))
+      paths_list turns (counted stream head (stages.Closing dir found) answer) head (index_paths (is_some store.multi) head.folder found)
+      (omega (arith, length-index_paths (is_some store.multi) head.folder found))
   fed_at_lists turns stream head (stages.Breaking dir) answer few fits room = tt
   fed_at_lists turns stream head (stages.Index path left) answer few fits room =
       index_lists turns (counted stream head (stages.Index path left) answer) head path left answer (omega arith)
   fed_at_lists turns stream head (stages.Pack row left) answer few fits room =
       pack_lists turns (counted stream head (stages.Pack row left) answer) head row left answer (omega arith)
+  fed_at_lists turns stream head (stages.Multi left) answer few fits room =
+      multi_lists turns (counted stream head (stages.Multi left) answer) head left answer (omega arith)
 
   -- a turn of a listing takes one of its turns
   pub fed_lists : (turns : ℕ) (stream : Option Stream) (lister : Lister) (answer : DiskAnswer)
       → IsCounted stream lister
       → HasAtMost entries (stream_by stream (asks.Disk (ask_at lister.head.folder lister.stage)) (told.Disk answer))
       → lister_turns lister ≤ turns + 1
-      → ListsFor turns (stream_by stream (asks.Disk (ask_at lister.head.folder lister.stage)) (told.Disk answer)) (fed folders lister answer)
+      → ListsFor turns (stream_by stream (asks.Disk (ask_at lister.head.folder lister.stage)) (told.Disk answer)) (fed store lister answer)
   fed_lists turns stream lister answer few fits room = fed_at_lists turns stream lister.head lister.stage answer few fits room

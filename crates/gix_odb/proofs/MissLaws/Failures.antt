@@ -58,6 +58,7 @@ use Rattle.gix_odb.specs.declared.look_up.Purpose.{Purpose}
 use Rattle.gix_odb.specs.declared.look_up.Purpose.TheVariants as purposes
 use Rattle.gix_odb_search.proofs.NotedLaws.{IsDisk, IsNoted, IsNotedBy, NotedIn, failed, failed_trier, noted_answer, noted_seek}
 use Rattle.gix_odb.proofs.MissLaws.Replies.{EndsNoMiss, IsMiss, found_is_no_miss, refused_is_no_miss, verdict_is_no_miss}
+use Rattle.gix_odb.specs.Store.{listed_for}
 
 -- ---- look-ups
 
@@ -188,23 +189,24 @@ module _ (setting : Setting) (want : Want) where
     marred_step noted (steps.Refused error) = refused_step error
 
     breaking_ends : (list_head : ListHead) (stage : ListStage) → IsBreaking stage → (answer : DiskAnswer)
-        → Marred (by_listed (lists.fed_at setting.parts.folders list_head stage answer))
+        → Marred (by_listed (lists.fed_at (listed_for setting.parts) list_head stage answer))
     breaking_ends list_head (list_stages.Breaking dir) breaking answer = refused_step load_errors.Io
     breaking_ends list_head list_stages.Opening breaking answer = absurd breaking
     breaking_ends list_head (list_stages.Reading dir entries) breaking answer = absurd breaking
     breaking_ends list_head (list_stages.Closing dir entries) breaking answer = absurd breaking
     breaking_ends list_head (list_stages.Index path left) breaking answer = absurd breaking
     breaking_ends list_head (list_stages.Pack row left) breaking answer = absurd breaking
+    breaking_ends list_head (list_stages.Multi left) breaking answer = absurd breaking
 
     marred_refresh : (refresh : Refresh) → IsMarred (stages.Refreshing refresh purpose notes) → (answer : Answer)
-        → Marred (refreshes.fed setting.parts.objects setting.parts.folders refresh answer)
-    marred_refresh fronts.Reading marred answer = marred_step marred (refreshes.fed setting.parts.objects setting.parts.folders fronts.Reading answer)
+        → Marred (refreshes.fed setting.parts.objects (listed_for setting.parts) refresh answer)
+    marred_refresh fronts.Reading marred answer = marred_step marred (refreshes.fed setting.parts.objects (listed_for setting.parts) fronts.Reading answer)
     marred_refresh (fronts.Listing lister) (inl noted) answer =
-        marred_step noted (refreshes.fed setting.parts.objects setting.parts.folders (fronts.Listing lister) answer)
+        marred_step noted (refreshes.fed setting.parts.objects (listed_for setting.parts) (fronts.Listing lister) answer)
     marred_refresh (fronts.Listing lister) (inr breaking) (told.Disk answer) = breaking_ends lister.head lister.stage breaking answer
     marred_refresh (fronts.Listing lister) (inr breaking) (told.Core answer) = record { own = own; stage = inr breaking }
     marred_refresh (fronts.Publishing listing) marred answer =
-        marred_step marred (refreshes.fed setting.parts.objects setting.parts.folders (fronts.Publishing listing) answer)
+        marred_step marred (refreshes.fed setting.parts.objects (listed_for setting.parts) (fronts.Publishing listing) answer)
 
   marred_stage : (head : LookHead) → head.want ≡ want → (stage : LookStage) → IsMarred stage → (answer : Answer)
       → IsLookMarred (fed_at setting head stage answer)
@@ -232,13 +234,14 @@ module _ (setting : Setting) (want : Want) where
 
   failed_lister : (head : LookHead) → head.want ≡ want → (purpose : Purpose) (notes : Notes) (list_head : ListHead) (stage : ListStage)
       → CanFail (asks.Disk (lists.ask_at list_head.folder stage))
-      → IsLookMarred (by_refresh setting head purpose notes (by_listed (lists.fed_at setting.parts.folders list_head stage (disk_answers.Refused disk_errors.Failed))))
+      → IsLookMarred (by_refresh setting head purpose notes (by_listed (lists.fed_at (listed_for setting.parts) list_head stage (disk_answers.Refused disk_errors.Failed))))
   failed_lister head own purpose notes list_head list_stages.Opening can = refused_step head own purpose notes load_errors.Io
   failed_lister head own purpose notes list_head (list_stages.Reading dir entries) can = record { own = own; stage = inr tt }
   failed_lister head own purpose notes list_head (list_stages.Closing dir entries) can = absurd (cc can)
   failed_lister head own purpose notes list_head (list_stages.Breaking dir) can = absurd (cc can)
   failed_lister head own purpose notes list_head (list_stages.Index path left) can = refused_step head own purpose notes load_errors.Io
   failed_lister head own purpose notes list_head (list_stages.Pack row left) can = refused_step head own purpose notes load_errors.Io
+  failed_lister head own purpose notes list_head (list_stages.Multi left) can = refused_step head own purpose notes load_errors.Io
 
   -- the verdict on a folder whose call failed
   failed_says : (asked : Want) (path : Path) → IsNoPlainMiss asked (verdict_by asked path setting.parts.alloc_limit_bytes (disk_answers.Refused disk_errors.Failed))

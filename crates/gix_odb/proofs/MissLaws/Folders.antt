@@ -47,6 +47,7 @@ use Rattle.gix_odb.specs.declared.look_up.Purpose.TheVariants as purposes
 use Rattle.gix_odb_search.proofs.ReachLemmas.{first_or_later}
 use Rattle.gix_odb.proofs.MissLaws.Lists.{drop_none, first_in, found_at, here_or_behind, later_in, nothing_ahead}
 use Rattle.gix_odb.proofs.MissLaws.Replies.{EndsNoMiss, IsMiss, found_is_no_miss, refused_is_no_miss, verdict_is_no_miss}
+use Rattle.gix_odb.specs.Store.{listed_for}
 
 module _ (setting : Setting) (want : Want) (id : ObjectId) (exchanges : List Exchange) where
   -- the folder was asked in one of the exchanges, and missed
@@ -229,7 +230,7 @@ module _ (setting : Setting) (want : Want) (id : ObjectId) (exchanges : List Exc
       record { own = own; stage = asked_passes head own round call passes ask answer is was }
   stage_passes head own (stages.Loose round call) passes ask (told.Core answer) is was = record { own = own; stage = passes }
   stage_passes head own (stages.Refreshing refresh purpose notes) passes ask answer is was =
-      refresh_passes head own purpose notes (refreshes.fed setting.parts.objects setting.parts.folders refresh answer)
+      refresh_passes head own purpose notes (refreshes.fed setting.parts.objects (listed_for setting.parts) refresh answer)
   stage_passes head own (stages.Checking list_no notes) passes ask (told.Disk answer) is was = record { own = own; stage = passes }
   stage_passes head own (stages.Checking list_no notes) passes ask (told.Core (Ok effect)) is was =
       record { own = own; stage = checked_passes head own list_no notes passes (view_shown effect) }

@@ -1,5 +1,5 @@
 -- How a listing uses entries and rows keeps each of them: an index among entries has its path, and a row its place among the ordered ones.
-use Rattle.std.proofs.Common.{◌≡◌, ◌⊎◌, inl, inr, ◌++◌, ◌||◌, Bool, true, false, cond, nat_lt, List, [], ◌∷◌, map, Contains}
+use Rattle.std.proofs.Common.{◌≡◌, ◌⊎◌, inl, inr, ◌&&◌, ◌||◌, Bool, true, false, cond, nat_lt, List, [], ◌∷◌, map, Contains}
 use Rattle.std.proofs.Common.{refl, sym, ap, ◌∙◌, subst}
 use Rattle.std.specs.Cmp.Lexicographic.{bytes_decides}
 use Rattle.std.specs.List.{All, filter, list_any}
@@ -7,11 +7,11 @@ use Rattle.std.proofs.lemmas.Bool.{and_from, cases_Bool, cond-true, cond-false, 
 use Rattle.std.proofs.lemmas.List.Elements.{All-head, All-tail}
 use Rattle.odb_base.specs.Path.{Name, Path, same_name}
 use Rattle.odb_disk.specs.declared.entry.Entry.{Entry}
-use Rattle.odb_disk.specs.declared.meta.Kind.{Kind}
 use Rattle.odb_disk.specs.declared.meta.Kind.TheVariants as kinds
 use Rattle.gix_odb_events.specs.declared.listing.ListingRow.{ListingRow}
 use Rattle.gix_odb_search.specs.LongestFirst.{longest_first, put_row, put_rows}
-use Rattle.gix_odb_search.specs.PackFolder.{firsts, firsts_without, index_paths, is_file, is_index_entry, is_index_name}
+use Rattle.gix_odb_search.specs.PackFolder.{firsts, firsts_without, index_path_in, index_paths, is_file, is_index_entry, is_index_name, is_multi_index_name, path_by}
+use Rattle.gix_odb_search.specs.declared.folders.IndexPath.{IndexPath}
 use Rattle.gix_odb_search.proofs.ReachLemmas.{first_or_later, none_in}
 use Rattle.gix_odb.proofs.MissLaws.Lists.{first_in, later_in}
 
@@ -144,15 +144,15 @@ module _ (name : Name) where
         | inr other ↦ kept_behind entry rest names other new has (λ others fresh later. file_kept rest others fresh later more_files)
       ]
 
-  is_file_kind : (kind : Kind) → kind ≡ kinds.File → is_file kind ≡ true
-  is_file_kind kind is = ap is_file is
-
-  -- an index among entries has its path
-  pub path_kept : (folder : Path) (entries : List Entry) → is_index_name name ≡ true → HasName entries → AreFiles entries
-      → Contains (index_paths folder entries) (folder ++ name ∷ [])
-  path_kept folder entries named has files =
+  -- an entry of the name that is kept has its path, if it is an index or the multi-pack index
+  pub path_kept : (multi : Bool) (folder : Path) (entries : List Entry) (path : IndexPath) → (is_index_name name || (multi && is_multi_index_name name)) ≡ true
+      → path_by (is_index_name name) folder name ≡ path → HasName entries → AreFiles entries → Contains (index_paths multi folder entries) path
+  path_kept multi folder entries path named is has files =
       let kept = file_kept entries [] refl has files in
-      let passes : is_index_entry kept.0 ≡ true = and_from _ _ (is_file_kind kept.0.kind kept.3) (ap is_index_name kept.2 ∙ named) in
-      subst (λ (n : Name). Contains (index_paths folder entries) (folder ++ n ∷ [])) kept.2
-      (mapped_in (λ (e : Entry). folder ++ e.name ∷ []) (filter is_index_entry (firsts entries)) kept.0
-      (filtered_in is_index_entry (firsts entries) kept.0 kept.1 passes))
+      let passes : is_index_entry multi kept.0 ≡ true =
+      and_from (is_file kept.0.kind) _ (ap is_file kept.3)
+      (ap (λ (n : Name). is_index_name n || (multi && is_multi_index_name n)) kept.2 ∙ named) in
+      let at : index_path_in folder kept.0 ≡ path = ap (λ (n : Name). path_by (is_index_name n) folder n) kept.2 ∙ is in
+      subst (λ (p : IndexPath). Contains (index_paths multi folder entries) p) at
+      (mapped_in (index_path_in folder) (filter (is_index_entry multi) (firsts entries)) kept.0
+      (filtered_in (is_index_entry multi) (firsts entries) kept.0 kept.1 passes))

@@ -1,7 +1,7 @@
 -- A look-up for an object that stays unchanged in a pack stays on its track: what it knows leads to the object's index.
 use Rattle.std.proofs.Common.{◌≡◌, ◌⊎◌, inl, inr, ℕ, Bool, true, false, cond, List, [], ◌∷◌, ◌++◌, slice_get, unwrap_or, Contains, Option, Some, None}
 use Rattle.std.proofs.Common.{Ok, Err}
-use Rattle.std.proofs.Common.{refl, sym, ◌∙◌, subst}
+use Rattle.std.proofs.Common.{refl, sym, subst}
 use Rattle.std.specs.List.{All}
 use Rattle.std.proofs.lemmas.List.Elements.{All-contains}
 use Rattle.std.proofs.lemmas.Option.{same_Some}
@@ -16,10 +16,12 @@ use Rattle.gix_odb_events.specs.declared.event.Effect.{Effect}
 use Rattle.gix_odb_events.specs.declared.event.Effect.TheVariants as effects
 use Rattle.gix_odb_events.specs.declared.event.Event.TheVariants as events
 use Rattle.gix_odb_events.specs.declared.view.View.{View}
+use Rattle.gix_odb_search.specs.ListedStore.{ListedStore}
 use Rattle.gix_odb_search.specs.ListOrder as lists
+use Rattle.gix_odb_search.specs.MultiPack.{most_packs}
 use Rattle.gix_odb_search.specs.TryOrder as tries
 use Rattle.gix_odb_search.specs.TryOrder.{seek}
-use Rattle.gix_odb_search.proofs.ReachLaws.{IsAhead, IsNoMiss, IsTracked, seek_goes}
+use Rattle.gix_odb_search.proofs.ReachLaws.{IsAhead, IsNoMiss, IsTracked, LeadsIfThere, seek_goes}
 use Rattle.gix_odb_search.proofs.ReachLemmas.{IsPresent, present_at_first}
 use Rattle.gix_odb_events.specs.declared.answer.Answer.{Answer}
 use Rattle.gix_odb_events.specs.declared.answer.Answer.TheVariants as told
@@ -39,7 +41,7 @@ use Rattle.gix_object.specs.declared.want.Want.{Want}
 use Rattle.gix_odb_calls.specs.declared.verdict.Verdict.{Verdict}
 use Rattle.gix_odb_calls.specs.declared.verdict.Verdict.TheVariants as verdicts
 use Rattle.gix_odb.specs.LookExchanges.{Exchange, AreAsked, behind}
-use Rattle.gix_odb.specs.Fair.{AreFair, IsFair, IsViewFair, PackedPlace, index_at, pack_at}
+use Rattle.gix_odb.specs.Fair.{AreFair, HasRowOf, IsCarried, IsFair, IsItsIndex, IsViewFair, PackedPlace, pack_at}
 use Rattle.gix_odb.specs.Stream.{Stream, stream_by, stream_in}
 use Rattle.gix_odb.proofs.ListerLaws.Streams.{stream_in-push}
 use Rattle.gix_odb.specs.LoadIndex.{of_refusal}
@@ -63,9 +65,11 @@ use Rattle.gix_odb.specs.declared.look_up.Part.{Part}
 use Rattle.gix_odb.specs.declared.look_up.Part.TheVariants as parts
 use Rattle.gix_odb.specs.declared.look_up.Purpose.{Purpose}
 use Rattle.gix_odb.specs.declared.look_up.Purpose.TheVariants as purposes
-use Rattle.gix_odb.proofs.MissLaws.Listing.{HasRow, IsOnWay, StepsOn, begins, listing_goes}
+use Rattle.gix_odb.proofs.MissLaws.Carried.{HasRow, IsCarrierRow}
+use Rattle.gix_odb.proofs.MissLaws.Listing.{IsOnWay, StepsOn, begins, listing_goes}
 use Rattle.gix_odb.proofs.MissLaws.Replies.{EndsNoMiss, IsMiss, found_is_no_miss, refused_is_no_miss, verdict_is_no_miss}
-use Rattle.gix_odb.proofs.MissLaws.Trying.{lead_if_fair, try_goes}
+use Rattle.gix_odb.proofs.MissLaws.Trying.{content_leads, lead_if_fair, try_goes}
+use Rattle.gix_odb.specs.Store.{listed_for}
 
 -- a list that was tried before any listing
 abbrev pub IsEarly : Part → Type 0
@@ -78,22 +82,28 @@ abbrev tries_view : Setting → LookHead → View → Notes → Tried
 tries_view setting head view notes = seek (goal_of setting head) (record { indices = view.snapshot.indices; todo = view.todo; notes = notes })
 
 module _ (setting : Setting) (hash : Kind) (want : Want) (id : ObjectId) (of_hash : kind_of id ≡ hash) (place : PackedPlace)
-    (among : Contains (folders_of setting) place.folder) where
+    (carried : IsCarried (listed_for setting.parts).multi place) (among : Contains (folders_of setting) place.folder) where
+  abbrev store : ListedStore
+  store = listed_for setting.parts
+
   abbrev pub RowThere : List ListingRow → Type 0
-  RowThere rows = HasRow hash id place setting.parts.folders rows
+  RowThere rows = HasRow store.multi hash id place rows
+
+  abbrev MissesNot : Tried → Type 0
+  MissesNot = IsNoMiss hash id (pack_at place) (IsItsIndex place)
 
   -- a list that the look-up published itself leads to the object
   abbrev pub TriesOn : Part → Trier → Type 0
   TriesOn parts.Snapshot trier = Unit {0}
   TriesOn (parts.List list_no loose) trier = Unit {0}
-  TriesOn (parts.Published list_no) trier = IsTracked hash id (index_at place) trier
+  TriesOn (parts.Published list_no) trier = IsTracked hash id (pack_at place) (IsItsIndex place) trier
 
   -- what is known at each stage: before the first listing nothing, and from then on where the index is
   abbrev pub IsOn : Option Stream → LookStage → Type 0
   IsOn stream (stages.Trying trier part) = TriesOn part trier
   IsOn stream (stages.Loose round call) = IsEarly round.part
   IsOn stream (stages.Refreshing fronts.Reading purpose notes) = Unit {0}
-  IsOn stream (stages.Refreshing (fronts.Listing lister) purpose notes) = IsOnWay hash id place setting.parts.folders stream lister.head lister.stage
+  IsOn stream (stages.Refreshing (fronts.Listing lister) purpose notes) = IsOnWay store hash id place carried stream lister.head lister.stage
   IsOn stream (stages.Refreshing (fronts.Publishing listing) purpose notes) = RowThere listing.rows
   IsOn stream (stages.Checking list_no notes) = ⊥
   IsOn stream (stages.Done reply) = ¬ (IsMiss want reply)
@@ -109,7 +119,7 @@ module _ (setting : Setting) (hash : Kind) (want : Want) (id : ObjectId) (of_has
 
   module _ (stream : Option Stream) (head : LookHead) where
     listing_on : (base : ℕ) (notes : Notes) → IsOn stream (listing_from setting base notes)
-    listing_on base notes = begins hash id place setting.parts.folders setting.parts.objects base stream among
+    listing_on base notes = begins store hash id place carried setting.parts.objects base stream among
 
     -- ---- lists
 
@@ -131,7 +141,7 @@ module _ (setting : Setting) (hash : Kind) (want : Want) (id : ObjectId) (of_has
     early_goes part early (tried.Bad error) = refused_is_no_miss want (call_errors.Find (find_error error))
     early_goes part early (tried.Broken refusal) = refused_is_no_miss want (call_errors.Find (find_errors.LoadIndex (of_refusal refusal)))
 
-    published_goes : (list_no : ℕ) (result : Tried) → IsNoMiss hash id (index_at place) result
+    published_goes : (list_no : ℕ) (result : Tried) → MissesNot result
         → IsOn stream (by_tried setting head (parts.Published list_no) result)
     published_goes list_no (tried.More trier) on = on
     published_goes list_no (tried.Hit what) on = found_is_no_miss want what
@@ -139,7 +149,7 @@ module _ (setting : Setting) (hash : Kind) (want : Want) (id : ObjectId) (of_has
     published_goes list_no (tried.Bad error) on = refused_is_no_miss want (call_errors.Find (find_error error))
     published_goes list_no (tried.Broken refusal) on = refused_is_no_miss want (call_errors.Find (find_errors.LoadIndex (of_refusal refusal)))
 
-    tried_goes : (part : Part) (result : Tried) → IsEarly part ⊎ IsNoMiss hash id (index_at place) result → IsOn stream (by_tried setting head part result)
+    tried_goes : (part : Part) (result : Tried) → IsEarly part ⊎ MissesNot result → IsOn stream (by_tried setting head part result)
     tried_goes part result (inl early) = early_goes part early result
     tried_goes parts.Snapshot result (inr on) = early_goes parts.Snapshot tt result
     tried_goes (parts.List list_no loose) result (inr on) = early_goes (parts.List list_no loose) tt result
@@ -189,36 +199,58 @@ module _ (setting : Setting) (hash : Kind) (want : Want) (id : ObjectId) (of_has
       look_goes None = record { own = own; stage = tt }
       look_goes (Some view) = view_read_goes view
 
-      listed_goes : (step : ListStep) → StepsOn hash id place setting.parts.folders stream step → StepOn (by_listed step)
+      listed_goes : (step : ListStep) → StepsOn store hash id place carried stream step → StepOn (by_listed step)
       listed_goes (listed.More lister) on = record { own = own; stage = on }
       listed_goes (listed.Listed listing) on = record { own = own; stage = on }
       listed_goes listed.Broken on =
           record { own = own; stage = refused_is_no_miss want (call_errors.Find (find_errors.LoadIndex load_errors.Io)) }
+      listed_goes (listed.TooManyPacks actual path) on =
+          record {
+            own = own;
+            stage = refused_is_no_miss want (call_errors.Find (find_errors.LoadIndex (load_errors.TooManyPacksInMultiIndex actual most_packs path)));
+          }
+
+  abbrev Ahead : View → Type 0
+  Ahead view = IsAhead hash id (pack_at place) (IsItsIndex place) view.snapshot.indices view.todo
+
+  -- the row of the pack's own index is that of an index that is shown, or still to be loaded
+  index_ahead : (row : ListingRow) → IsItsIndex place row.path → (view : View) → IsViewFair store.multi hash id place view → (slot : ℕ)
+      → IsListed view slot row → Ahead view
+  index_ahead row at view fair slot (inl shown) =
+      inl (
+        shown.0,
+        shown.1,
+        All-contains (LeadsIfThere hash id (pack_at place) (IsItsIndex place)) view.snapshot.indices shown.0
+            (lead_if_fair store.multi hash id place view.snapshot.indices fair.indices) shown.1 (subst (IsItsIndex place) (sym shown.3) at),
+      )
+  index_ahead row at view fair slot (inr listed) = inr (record { slot = slot; path = row.path }, listed, at)
+
+  row_ahead : (row : ListingRow) → IsCarrierRow store.multi hash id place row → (view : View) → IsViewFair store.multi hash id place view
+      → HasRowOf view row row.multi → Ahead view
+  row_ahead row (inl (single, at)) view fair has =
+      let listed = subst (HasRowOf view row) single has in index_ahead row at view fair listed.0 listed.1
+  row_ahead row (inr own) view fair has =
+      let shown = subst (HasRowOf view row) own.content has in
+      inl (shown.index, shown.among, content_leads store.multi hash id place view row own.bytes own.path own.sound shown)
 
   -- the view that a publish passes has the index, loaded or still to be loaded
   view_goes : (stream : Option Stream) (head : LookHead) → IsFor head → (listing : Listing) → RowThere listing.rows → (notes : Notes) → notes.absent ≡ []
-      → (view : View) → IsViewFair hash id place view
-      → ((row : ListingRow) → Contains listing.rows row → (slot : ℕ) × IsListed view slot row)
+      → (view : View) → IsViewFair store.multi hash id place view
+      → ((row : ListingRow) → Contains listing.rows row → HasRowOf view row row.multi)
       → IsOn stream (try_view setting head (parts.Published view.list_no) view view.todo notes)
   view_goes stream head own listing has notes none view fair rows =
       published_goes stream head view.list_no (tries_view setting head view notes)
-      (seek_goes hash id (index_at place) (goal_of setting head) own.id_is (record { indices = view.snapshot.indices; todo = view.todo; notes = notes })
-      (record {
-        lead = lead_if_fair hash id place view.snapshot.indices fair.indices;
-        present = subst (IsPresent (pack_at place)) (sym none) (present_at_first (pack_at place));
-      })
-      (ahead (rows has.0 has.1).0 (rows has.0 has.1).1))
-    where
-      ahead : (slot : ℕ) → IsListed view slot has.0 → IsAhead hash id (index_at place) view.snapshot.indices view.todo
-      ahead slot (inl shown) = inl (shown.0, shown.1, shown.3 ∙ has.2)
-      ahead slot (inr listed) = inr (record { slot = slot; path = has.0.path }, listed, has.2)
+      (seek_goes hash id (pack_at place) (IsItsIndex place) (goal_of setting head) own.id_is
+      (record { indices = view.snapshot.indices; todo = view.todo; notes = notes })
+      (subst (IsPresent (pack_at place)) (sym none) (present_at_first (pack_at place)))
+      (row_ahead has.0 has.2 view fair (rows has.0 has.1)))
 
-  rows_in : (listing : Listing) (view : View) → All (λ (row : ListingRow). (slot : ℕ) × IsListed view slot row) listing.rows
-      → (row : ListingRow) → Contains listing.rows row → (slot : ℕ) × IsListed view slot row
-  rows_in listing view all row has = All-contains (λ (r : ListingRow). (slot : ℕ) × IsListed view slot r) listing.rows row all has
+  rows_in : (listing : Listing) (view : View) → All (λ (row : ListingRow). HasRowOf view row row.multi) listing.rows
+      → (row : ListingRow) → Contains listing.rows row → HasRowOf view row row.multi
+  rows_in listing view all row has = All-contains (λ (r : ListingRow). HasRowOf view r r.multi) listing.rows row all has
 
   publish_goes : (stream : Option Stream) (past : List Exchange) (head : LookHead) → IsFor head → (listing : Listing) (purpose : Purpose) (notes : Notes)
-      → RowThere listing.rows → (effect : Effect) → IsFair hash id place past (asks.Core (events.Publish listing)) (told.Core (Ok effect))
+      → RowThere listing.rows → (effect : Effect) → IsFair store.multi hash id place past (asks.Core (events.Publish listing)) (told.Core (Ok effect))
       → IsLookOn stream (by_refresh setting head purpose notes (by_published listing effect))
   publish_goes stream past head own listing purpose notes has (effects.Published view) fair =
       let own_too : IsFor (with_own head) = record { want_is = own.want_is; id_is = own.id_is } in
@@ -240,18 +272,18 @@ module _ (setting : Setting) (hash : Kind) (want : Want) (id : ObjectId) (of_has
 
   -- an answer to what the stage asks
   stage_goes : (past : List Exchange) (head : LookHead) → IsFor head → (stage : LookStage) → IsOn (stream_in past) stage → (ask : Ask) (answer : Answer)
-      → ask_at stage ≡ Some ask → IsFair hash id place past ask answer
+      → ask_at stage ≡ Some ask → IsFair store.multi hash id place past ask answer
       → IsLookOn (stream_by (stream_in past) ask answer) (fed_at setting head stage answer)
   stage_goes past head own (stages.Trying trier part) on ask answer is fair =
       let own_ask = same_Some _ ask is in
-      let fair_there = subst (λ (a : Ask). IsFair hash id place past a answer) (sym own_ask) fair in
+      let fair_there = subst (λ (a : Ask). IsFair store.multi hash id place past a answer) (sym own_ask) fair in
       record { own = own; stage = tried_goes (stream_by (stream_in past) ask answer) head part (trier_fed trier answer) (by part on fair_there) }
     where
-      by : (p : Part) → TriesOn p trier → IsFair hash id place past (tries.ask_of trier) answer
-          → IsEarly p ⊎ IsNoMiss hash id (index_at place) (trier_fed trier answer)
+      by : (p : Part) → TriesOn p trier → IsFair store.multi hash id place past (tries.ask_of trier) answer
+          → IsEarly p ⊎ MissesNot (trier_fed trier answer)
       by parts.Snapshot tries_on fair_there = inl tt
       by (parts.List list_no loose) tries_on fair_there = inl tt
-      by (parts.Published list_no) tries_on fair_there = inr (try_goes hash id place past of_hash trier tries_on answer fair_there)
+      by (parts.Published list_no) tries_on fair_there = inr (try_goes store.multi hash id place past of_hash trier tries_on answer fair_there)
   stage_goes past head own (stages.Loose round call) on ask (told.Disk answer) is fair =
       record {
         own = own;
@@ -269,22 +301,22 @@ module _ (setting : Setting) (hash : Kind) (want : Want) (id : ObjectId) (of_has
       let then : LookUp = fed_at setting head (stages.Refreshing (fronts.Listing lister) purpose notes) (told.Disk answer) in
       subst (λ (a : Ask). IsLookOn (stream_by (stream_in past) a (told.Disk answer)) then) own_ask
       (listed_goes (stream_by (stream_in past) (asks.Disk (lists.ask_of lister)) (told.Disk answer)) head own purpose notes
-      (lists.fed setting.parts.folders lister answer)
-      (listing_goes hash id place setting.parts.folders past lister.head lister.stage on answer
-      (subst (λ (a : Ask). IsFair hash id place past a (told.Disk answer)) (sym own_ask) fair)))
+      (lists.fed store lister answer)
+      (listing_goes store hash id place carried past lister.head on.0 lister.stage on.1 answer
+      (subst (λ (a : Ask). IsFair store.multi hash id place past a (told.Disk answer)) (sym own_ask) fair)))
   stage_goes past head own (stages.Refreshing (fronts.Listing lister) purpose notes) on ask (told.Core answer) is fair =
-      absurd (subst (λ (a : Ask). IsFair hash id place past a (told.Core answer)) (sym (same_Some _ ask is)) fair)
+      absurd (subst (λ (a : Ask). IsFair store.multi hash id place past a (told.Core answer)) (sym (same_Some _ ask is)) fair)
   stage_goes past head own (stages.Refreshing (fronts.Publishing listing) purpose notes) on ask (told.Disk answer) is fair = record { own = own; stage = on }
   stage_goes past head own (stages.Refreshing (fronts.Publishing listing) purpose notes) on ask (told.Core (Ok effect)) is fair =
       publish_goes (stream_by (stream_in past) ask (told.Core (Ok effect))) past head own listing purpose notes on effect
-      (subst (λ (a : Ask). IsFair hash id place past a (told.Core (Ok effect))) (sym (same_Some _ ask is)) fair)
+      (subst (λ (a : Ask). IsFair store.multi hash id place past a (told.Core (Ok effect))) (sym (same_Some _ ask is)) fair)
   stage_goes past head own (stages.Refreshing (fronts.Publishing listing) purpose notes) on ask (told.Core (Err refusal)) is fair =
       record { own = own; stage = refused_is_no_miss want (call_errors.Find (find_errors.LoadIndex (of_refusal refusal))) }
   stage_goes past head own (stages.Checking list_no notes) on ask answer is fair = absurd on
   stage_goes past head own (stages.Done reply) on ask answer is fair = absurd (cc is)
 
   look_on : (past : List Exchange) (look : LookUp) → IsLookOn (stream_in past) look → (ask : Ask) (answer : Answer) → ask_at look.stage ≡ Some ask
-      → IsFair hash id place past ask answer → IsLookOn (stream_by (stream_in past) ask answer) (fed setting look answer)
+      → IsFair store.multi hash id place past ask answer → IsLookOn (stream_by (stream_in past) ask answer) (fed setting look answer)
   look_on past look on ask answer is fair =
       stage_goes past (seen look.head answer) (record { want_is = on.own.want_is; id_is = on.own.id_is }) look.stage on.stage ask answer is fair
 
@@ -295,7 +327,7 @@ module _ (setting : Setting) (hash : Kind) (want : Want) (id : ObjectId) (of_has
   no_miss_at stream head stage on is = cc is
 
   pub never_missed : (past : List Exchange) (look : LookUp) → IsLookOn (stream_in past) look → (exchanges : List Exchange) → AreAsked setting look exchanges
-      → AreFair hash id place past exchanges → ¬ (result_of (behind setting look exchanges) ≡ Ok (not_found want))
+      → AreFair store.multi hash id place past exchanges → ¬ (result_of (behind setting look exchanges) ≡ Ok (not_found want))
   never_missed past look on [] asked fair = no_miss_at (stream_in past) look.head look.stage on.stage
   never_missed past look on (exchange ∷ exchanges) asked fair =
       let next = look_on past look on exchange.ask exchange.answer asked.0 fair.0 in

@@ -40,12 +40,13 @@ use Rattle.gix_odb.specs.OpenOrder.{begun, listed_on, looked, numbered, refused,
 use Rattle.gix_odb.specs.OpenExchanges.{AreAsked, HasListed, IsCaused, IsNoDir, IsNumber, ShowsNoDirectory, asks_of, behind, fed_by, list_behind, list_by}
 use Rattle.gix_odb.specs.declared.open_state.OpenStage.{OpenStage}
 use Rattle.gix_odb.specs.declared.open_state.OpenStage.TheVariants as opens
+use Rattle.gix_odb.specs.Store.{listed_for}
 
 -- after one more exchange
 list_behind-push : (setting : Setting) (step : ListStep) (past : List Exchange) (exchange : Exchange)
-    → list_behind setting.parts.folders step (past ++ exchange ∷ []) ≡ list_by setting.parts.folders (list_behind setting.parts.folders step past) exchange.answer
+    → list_behind (listed_for setting.parts) step (past ++ exchange ∷ []) ≡ list_by (listed_for setting.parts) (list_behind (listed_for setting.parts) step past) exchange.answer
 list_behind-push setting step [] exchange = refl
-list_behind-push setting step (first ∷ past) exchange = list_behind-push setting (list_by setting.parts.folders step first.answer) past exchange
+list_behind-push setting step (first ∷ past) exchange = list_behind-push setting (list_by (listed_for setting.parts) step first.answer) past exchange
 
 -- a core with so many slots was made for the store, at which the handle was registered
 abbrev pub WasRegistered : Setting → List Exchange → (number : ℕ) → Type 0
@@ -138,14 +139,14 @@ module _ (setting : Setting) (slots : Slots) where
       abbrev later : Told
       later = told_by now (asks.Disk (lists.ask_of lister)) (told.Disk answer)
 
-      listed_more : HasListed setting more (lists.fed setting.parts.folders lister answer)
+      listed_more : HasListed setting more (lists.fed (listed_for setting.parts) lister answer)
       listed_more = record {
         look = here.has.look;
         listing = here.has.listing ++ exchange ∷ [];
         are = ap (λ (all : List Exchange). all ++ exchange ∷ []) here.has.are;
         comes =
             list_behind-push setting (listed.More (lists.started setting.parts.objects 0)) here.has.listing exchange
-            ∙ ap (λ (step : ListStep). list_by setting.parts.folders step (told.Disk answer)) here.has.comes;
+            ∙ ap (λ (step : ListStep). list_by (listed_for setting.parts) step (told.Disk answer)) here.has.comes;
       }
 
       step_goes : (step : ListStep) → HasListed setting more step → GoesToFolder setting step → ListedTells setting more step → StreamBehind later step
@@ -156,12 +157,13 @@ module _ (setting : Setting) (slots : Slots) where
           number_goes later more stream (slots_for percent minimum (length listing.rows))
           (subst (λ (s : Slots). IsNumber setting s more (slots_for percent minimum (length listing.rows))) (sym here.asked) (listing, has, refl))
       step_goes listed.Broken has at tells stream = (stream, tells)
+      step_goes (listed.TooManyPacks actual path) has at tells stream = (stream, tells)
 
-      lister_goes : KnowsAt later more (listed_on percent minimum (lists.fed setting.parts.folders lister answer))
+      lister_goes : KnowsAt later more (listed_on percent minimum (lists.fed (listed_for setting.parts) lister answer))
       lister_goes =
-          step_goes (lists.fed setting.parts.folders lister answer) listed_more (fed-goes setting lister here.at answer)
+          step_goes (lists.fed (listed_for setting.parts) lister answer) listed_more (fed-goes setting lister here.at answer)
           (fed-tells setting more lister here.at (Breaks-more past (exchange ∷ []) lister.stage here.breaks) answer suits (Contains-push past exchange))
-          (listing_streams setting.parts.folders lister.head now lister.stage here.stream answer)
+          (listing_streams (listed_for setting.parts) lister.head now lister.stage here.stream answer)
 
     -- ---- one more exchange
 
@@ -195,7 +197,7 @@ module _ (setting : Setting) (slots : Slots) where
         are = ap (λ (all : List Exchange). all ++ registered ∷ []) has.are;
         comes =
             list_behind-push setting (listed.More (lists.started setting.parts.objects 0)) has.listing registered
-            ∙ ap (λ (step : ListStep). list_by setting.parts.folders step (told.Core answer)) has.comes;
+            ∙ ap (λ (step : ListStep). list_by (listed_for setting.parts) step (told.Core answer)) has.comes;
       }
 
       number_still : (own : Slots) → IsNumber setting own past number → IsNumber setting own (past ++ registered ∷ []) number

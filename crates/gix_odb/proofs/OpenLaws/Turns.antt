@@ -31,16 +31,17 @@ use Rattle.gix_odb.specs.OpenOrder.{begun, listed_on, looked, numbered, refused,
 use Rattle.gix_odb.specs.OpenExchanges.{AreAsked, asks_of, fed_by}
 use Rattle.gix_odb.specs.declared.open_state.OpenStage.{OpenStage}
 use Rattle.gix_odb.specs.declared.open_state.OpenStage.TheVariants as opens
+use Rattle.gix_odb.specs.Store.{listed_for}
 
 module _ (setting : Setting) (slots : Slots) (entries : ℕ) where
   abbrev listing : ℕ
-  listing = listing_turns setting.parts.objects setting.parts.folders entries
+  listing = listing_turns setting.parts.objects (listed_for setting.parts) entries
 
   -- so many turns are enough, where the open stream gave what the listing has: a stat, a listing, and the registration
   abbrev pub HasTurns : Option Stream → OpenStage → (turns : ℕ) → Type 0
   HasTurns stream opens.Looking turns = listing + 2 ≤ turns
   HasTurns stream (opens.Listing lister percent minimum) turns =
-      IsCounted setting.parts.folders entries stream lister × (lister_turns setting.parts.folders entries lister + 1 ≤ turns)
+      IsCounted (listed_for setting.parts) entries stream lister × (lister_turns (listed_for setting.parts) entries lister + 1 ≤ turns)
   HasTurns stream (opens.Registering number) turns = 1 ≤ turns
   HasTurns stream (opens.Done reply) turns = Unit {0}
 
@@ -76,11 +77,12 @@ module _ (setting : Setting) (slots : Slots) (entries : ℕ) where
     looked_goes (answers.Refused disk_errors.Failed) enough = tt
     looked_goes answer enough = tt
 
-    listed_goes : (now : Option Stream) (percent minimum : ℕ) (step : ListStep) → ListsFor setting.parts.folders entries (turns - 1) now step → 1 ≤ turns
+    listed_goes : (now : Option Stream) (percent minimum : ℕ) (step : ListStep) → ListsFor (listed_for setting.parts) entries (turns - 1) now step → 1 ≤ turns
         → HasTurns now (listed_on percent minimum step) turns
     listed_goes now percent minimum (listed.More lister) left some = (left.0, omega (arith, left.1, some))
     listed_goes now percent minimum (listed.Listed listing) left some = number_goes now (slots_for percent minimum (length listing.rows)) some
     listed_goes now percent minimum listed.Broken left some = tt
+    listed_goes now percent minimum (listed.TooManyPacks actual path) left some = tt
 
     look_goes : listing + 2 ≤ suc turns → (answer : Answer) → Goes opens.Looking (asks.Disk (disk_asks.Look setting.parts.objects true)) answer
     look_goes enough (told.Disk answer) is fits = looked_goes answer enough
@@ -89,9 +91,9 @@ module _ (setting : Setting) (slots : Slots) (entries : ℕ) where
     listing_goes : (lister : Lister) (percent minimum : ℕ) → HasTurns stream (opens.Listing lister percent minimum) (suc turns) → (answer : Answer)
         → Goes (opens.Listing lister percent minimum) (asks.Disk (lists.ask_of lister)) answer
     listing_goes lister percent minimum (counted, few) (told.Disk answer) is fits =
-        let some : 1 ≤ turns = omega (arith, few, lister_turns-pos setting.parts.folders entries lister) in
-        listed_goes (stream_by stream (asks.Disk (lists.ask_of lister)) (told.Disk answer)) percent minimum (lists.fed setting.parts.folders lister answer)
-        (fed_lists setting.parts.folders entries (turns - 1) stream lister answer counted fits (omega (arith, few, some)))
+        let some : 1 ≤ turns = omega (arith, few, lister_turns-pos (listed_for setting.parts) entries lister) in
+        listed_goes (stream_by stream (asks.Disk (lists.ask_of lister)) (told.Disk answer)) percent minimum (lists.fed (listed_for setting.parts) lister answer)
+        (fed_lists (listed_for setting.parts) entries (turns - 1) stream lister answer counted fits (omega (arith, few, some)))
         some
     listing_goes lister percent minimum left (told.Core answer) is fits = absurd is
 

@@ -87,7 +87,7 @@ module _ (Read : Path → DiskAnswer → Type 0) (hash : Kind) where
   LoadGoes (steps.More loader) = IsReadBy loader
   LoadGoes step = Unit {0}
 
-  module _ (Shown : Path → List ℕ → Type 0) (setting : Setting) where
+  module _ (Shown : Path → ℕ → List ℕ → Type 0) (setting : Setting) where
     abbrev Truth : Path → DiskAnswer → Type 0
     Truth path answer = IsTrue Shown setting hash (load.read_of path) (told.Disk answer)
 
@@ -144,7 +144,7 @@ module _ (Read : Path → DiskAnswer → Type 0) (hash : Kind) where
 
     -- ---- an answer
 
-    module _ (Shown : Path → List ℕ → Type 0) (setting : Setting) where
+    module _ (Shown : Path → ℕ → List ℕ → Type 0) (setting : Setting) where
       pub answer_goes : (stage : Stage) (answer : Answer) → IsTrue Shown setting hash (ask_at stage) answer
           → ((path : Path) (own : DiskAnswer) → ask_at stage ≡ asks.Disk (disk_asks.Read path) → answer ≡ told.Disk own → Read path own)
           → Goes (by_answer goal ahead stage answer)

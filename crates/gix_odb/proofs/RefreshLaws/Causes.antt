@@ -1,5 +1,5 @@
 -- Why a refresh is refused, at each of its stages.
-use Rattle.std.proofs.Common.{◌≡◌, ◌⊎◌, ℕ, Bool, true, false, List, [], ◌∷◌, ◌++◌, Option, Some, None, Ok, Err, refl, subst}
+use Rattle.std.proofs.Common.{◌≡◌, ℕ, Bool, true, false, List, [], ◌∷◌, ◌++◌, Option, Some, None, Ok, Err, refl, subst}
 use Rattle.std.specs.Prelude.{if◌then◌else◌}
 use Rattle.std.proofs.lemmas.List.Elements.{Contains-push}
 use Rattle.std.proofs.lemmas.Option.{same_Some}
@@ -23,7 +23,7 @@ use Rattle.gix_odb_search.specs.declared.lister.ListStep.TheVariants as listed
 use Rattle.gix_odb_search.specs.declared.lister.Lister.{Lister}
 use Rattle.gix_odb.specs.Exchange.{Exchange}
 use Rattle.gix_odb.specs.LoadIndex.{of_refusal}
-use Rattle.gix_odb.specs.Store.{Setting}
+use Rattle.gix_odb.specs.Store.{Setting, listed_for}
 use Rattle.gix_odb.proofs.ListerLaws.Folders.{GoesToFolder, IsAtFolder, fed-goes, first_folder}
 use Rattle.gix_odb.proofs.ListerLaws.Tells.{Breaks, ListedTells, fed-tells}
 use Rattle.gix_odb.proofs.ListerLaws.Tells.{HasFailed-more}
@@ -44,6 +44,7 @@ Breaks-more past more (list_stages.Reading dir entries) breaks = tt
 Breaks-more past more (list_stages.Closing dir entries) breaks = tt
 Breaks-more past more (list_stages.Index path left) breaks = tt
 Breaks-more past more (list_stages.Pack row left) breaks = tt
+Breaks-more past more (list_stages.Multi left) breaks = tt
 
 module _ (setting : Setting) where
   -- a listing is at one of the folders, and closes a stream early only after a failure
@@ -74,7 +75,7 @@ module _ (setting : Setting) where
     with_one ask answer = past ++ record { ask = ask; answer = answer } ∷ []
 
     abbrev pub Goes : Refresh → Ask → Answer → Type 0
-    Goes refresh ask answer = IsSuited ask answer → StepCaused (with_one ask answer) (fed setting.parts.objects setting.parts.folders refresh answer)
+    Goes refresh ask answer = IsSuited ask answer → StepCaused (with_one ask answer) (fed setting.parts.objects (listed_for setting.parts) refresh answer)
 
     view_goes : (more : List Exchange) (view : View) → StepCaused more (by_view setting.parts.objects view)
     view_goes more view = by view.read
@@ -96,11 +97,12 @@ module _ (setting : Setting) where
     listed_goes more (listed.More lister) at tells = (at, tells)
     listed_goes more (listed.Listed listing) at tells = tt
     listed_goes more listed.Broken at tells = tells
+    listed_goes more (listed.TooManyPacks actual path) at tells = tells
 
     listing_goes : (lister : Lister) → IsSound past lister → (answer : Answer) → Goes (stages.Listing lister) (asks.Disk (lists.ask_of lister)) answer
     listing_goes lister (at, breaks) (told.Disk answer) suits =
         let more : List Exchange = with_one (asks.Disk (lists.ask_of lister)) (told.Disk answer) in
-        listed_goes more (lists.fed setting.parts.folders lister answer) (fed-goes setting lister at answer)
+        listed_goes more (lists.fed (listed_for setting.parts) lister answer) (fed-goes setting lister at answer)
         (fed-tells setting more lister at (Breaks-more past _ lister.stage breaks) answer suits (Contains-push past _))
     listing_goes lister (at, breaks) (told.Core answer) suits = absurd suits
 
@@ -126,7 +128,7 @@ module _ (setting : Setting) where
 
   kept : (past : List Exchange) (step : RefreshStep) (exchange : Exchange) → StepCaused past step → asked_of step ≡ Some exchange.ask
       → IsSuited exchange.ask exchange.answer
-      → StepCaused (past ++ exchange ∷ []) (step_fed setting.parts.objects setting.parts.folders step exchange.answer)
+      → StepCaused (past ++ exchange ∷ []) (step_fed setting.parts.objects (listed_for setting.parts) step exchange.answer)
   kept past (steps.More refresh) exchange sound asked suits =
       subst (λ (own : Ask). Goes past refresh own exchange.answer) (same_Some (ask_of refresh) exchange.ask asked)
       (goes_caused past refresh sound exchange.answer) suits
@@ -142,5 +144,5 @@ module _ (setting : Setting) where
   pub refresh_caused : (snapshot : View) (exchanges : List Exchange) → AreAsked setting (started snapshot) exchanges → AreSuited exchanges
       → StepCaused exchanges (behind setting (started snapshot) exchanges)
   refresh_caused snapshot exchanges asked suited =
-      holds_behind asked_of (step_fed setting.parts.objects setting.parts.folders) StepCaused (λ exchange. IsSuited exchange.ask exchange.answer) kept (started snapshot)
+      holds_behind asked_of (step_fed setting.parts.objects (listed_for setting.parts)) StepCaused (λ exchange. IsSuited exchange.ask exchange.answer) kept (started snapshot)
       exchanges (start_caused snapshot snapshot.read) asked suited

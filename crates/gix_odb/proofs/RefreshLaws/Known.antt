@@ -1,5 +1,5 @@
 -- What is known at each stage of a refresh: of its rows, of its stream, and of the list that was not read.
-use Rattle.std.proofs.Common.{◌≡◌, ◌⊎◌, inl, inr, ℕ, Bool, true, false, List, [], ◌∷◌, ◌++◌, All, Option, Some, None, Ok, Err, refl, sym, ap, ◌∙◌, subst}
+use Rattle.std.proofs.Common.{◌≡◌, ◌⊎◌, inl, inr, Bool, true, false, List, [], ◌∷◌, ◌++◌, All, Option, Some, None, Ok, Err, refl, sym, ap, ◌∙◌, subst}
 use Rattle.std.specs.Prelude.{if◌then◌else◌}
 use Rattle.std.proofs.lemmas.List.Elements.{Contains-append_left, Contains-push}
 use Rattle.std.proofs.lemmas.Option.{same_Some}
@@ -18,7 +18,7 @@ use Rattle.gix_odb_search.specs.declared.lister.ListStep.{ListStep}
 use Rattle.gix_odb_search.specs.declared.lister.ListStep.TheVariants as listed
 use Rattle.gix_odb_search.specs.declared.lister.Lister.{Lister}
 use Rattle.gix_odb.specs.Exchange.{Exchange}
-use Rattle.gix_odb.specs.Store.{Setting}
+use Rattle.gix_odb.specs.Store.{Setting, listed_for}
 use Rattle.gix_odb.specs.Shown.{IsIndexRow}
 use Rattle.gix_odb.specs.Stream.{Stream, stream_in}
 use Rattle.gix_odb.proofs.ListerLaws.Known.{KnowsListStep, KnowsLister}
@@ -85,7 +85,7 @@ module _ (setting : Setting) where
     with_one ask answer = past ++ record { ask = ask; answer = answer } ∷ []
 
     abbrev Goes : Refresh → Ask → Answer → Type 0
-    Goes refresh ask answer = StepKnowsAt (told_by now ask answer) (with_one ask answer) (fed setting.parts.objects setting.parts.folders refresh answer)
+    Goes refresh ask answer = StepKnowsAt (told_by now ask answer) (with_one ask answer) (fed setting.parts.objects (listed_for setting.parts) refresh answer)
 
     -- the core's state was read
     module _ (effect : Effect) (none : HasNone now) where
@@ -120,13 +120,14 @@ module _ (setting : Setting) where
     listed_goes following more (listed.More lister) known stream unread = (known, stream, unread)
     listed_goes following more (listed.Listed listing) known stream unread = (stream, known, unread)
     listed_goes following more listed.Broken known stream unread = (stream, inl unread)
+    listed_goes following more (listed.TooManyPacks actual path) known stream unread = (stream, inl unread)
 
     listing_goes : (lister : Lister) → KnowsAt now past (stages.Listing lister) → (answer : Answer)
         → Goes (stages.Listing lister) (asks.Disk (lists.ask_of lister)) answer
     listing_goes lister known (told.Disk answer) =
         listed_goes (told_by now (asks.Disk (lists.ask_of lister)) (told.Disk answer)) (with_one (asks.Disk (lists.ask_of lister)) (told.Disk answer))
-        (lists.fed setting.parts.folders lister answer) (fed_known setting lister answer known.0)
-        (listing_streams setting.parts.folders lister.head now lister.stage known.1 answer)
+        (lists.fed (listed_for setting.parts) lister answer) (fed_known setting lister answer known.0)
+        (listing_streams (listed_for setting.parts) lister.head now lister.stage known.1 answer)
         (ShowedUnread-more past _ known.2)
     listing_goes lister known (told.Core answer) =
         (known.0, core_leaves_streams now lister.head.folder lister.stage answer known.1, ShowedUnread-more past _ known.2)
@@ -154,7 +155,7 @@ module _ (setting : Setting) where
     goes (stages.Publishing listing) known answer = publish_goes listing known answer
 
     step_goes : (step : RefreshStep) → StepKnowsAt now past step → (ask : Ask) (answer : Answer) → asked_of step ≡ Some ask
-        → StepKnowsAt (told_by now ask answer) (with_one ask answer) (step_fed setting.parts.objects setting.parts.folders step answer)
+        → StepKnowsAt (told_by now ask answer) (with_one ask answer) (step_fed setting.parts.objects (listed_for setting.parts) step answer)
     step_goes (steps.More refresh) known ask answer is =
         subst (λ (own : Ask). Goes refresh own answer) (same_Some (ask_of refresh) ask is) (goes refresh known answer)
     step_goes (steps.Read view) known ask answer is = absurd (cc is)
@@ -163,9 +164,9 @@ module _ (setting : Setting) where
     step_goes (steps.Refused error) known ask answer is = absurd (cc is)
 
   kept : (past : List Exchange) (step : RefreshStep) (exchange : Exchange) → Knows past step → asked_of step ≡ Some exchange.ask → Unit {0}
-      → Knows (past ++ exchange ∷ []) (step_fed setting.parts.objects setting.parts.folders step exchange.answer)
+      → Knows (past ++ exchange ∷ []) (step_fed setting.parts.objects (listed_for setting.parts) step exchange.answer)
   kept past step exchange known asked meets =
-      subst (λ (now : Told). StepKnowsAt now (past ++ exchange ∷ []) (step_fed setting.parts.objects setting.parts.folders step exchange.answer))
+      subst (λ (now : Told). StepKnowsAt now (past ++ exchange ∷ []) (step_fed setting.parts.objects (listed_for setting.parts) step exchange.answer))
       (sym (told_of-push past exchange))
       (step_goes (told_of past) past step known exchange.ask exchange.answer asked)
 
@@ -178,5 +179,5 @@ module _ (setting : Setting) where
   pub refresh_knows : (snapshot : View) (exchanges : List Exchange) → AreAsked setting (started snapshot) exchanges
       → Knows exchanges (behind setting (started snapshot) exchanges)
   refresh_knows snapshot exchanges asked =
-      holds_behind asked_of (step_fed setting.parts.objects setting.parts.folders) Knows (λ exchange. Unit {0}) kept (started snapshot) exchanges
+      holds_behind asked_of (step_fed setting.parts.objects (listed_for setting.parts)) Knows (λ exchange. Unit {0}) kept (started snapshot) exchanges
       (start_knows snapshot snapshot.read) asked (λ exchange among. tt)

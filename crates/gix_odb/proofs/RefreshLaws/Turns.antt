@@ -9,6 +9,7 @@ use Rattle.gix_odb_events.specs.declared.event.Effect.TheVariants as effects
 use Rattle.gix_odb_events.specs.declared.event.Event.TheVariants as events
 use Rattle.gix_odb_events.specs.declared.view.View.{View}
 use Rattle.gix_odb_search.specs.ListOrder as lists
+use Rattle.gix_odb_search.specs.ListedStore.{ListedStore}
 use Rattle.gix_odb_events.specs.declared.answer.Answer.{Answer}
 use Rattle.gix_odb_events.specs.declared.answer.Answer.TheVariants as told
 use Rattle.gix_odb_events.specs.declared.answer.Ask.{Ask}
@@ -32,14 +33,14 @@ wide slots folders entries =
     let whole : folders - 0 ≡ folders = omega arith in
     rw whole (omega arith)
 
-module _ (objects : Path) (folders : List Path) (entries : ℕ) where
+module _ (objects : Path) (store : ListedStore) (entries : ℕ) where
   abbrev pub listing_turns : ℕ
-  listing_turns = folder_turns folders entries + further folders entries 0
+  listing_turns = folder_turns store entries + further store entries 0
 
   -- so many turns are enough, where the open stream gave what the listing has: a read of the core's state, a listing, and its publishing
   abbrev pub HasTurns : Option Stream → Refresh → (turns : ℕ) → Type 0
   HasTurns stream stages.Reading turns = listing_turns + 2 ≤ turns
-  HasTurns stream (stages.Listing lister) turns = IsCounted folders entries stream lister × (lister_turns folders entries lister + 1 ≤ turns)
+  HasTurns stream (stages.Listing lister) turns = IsCounted store entries stream lister × (lister_turns store entries lister + 1 ≤ turns)
   HasTurns stream (stages.Publishing listing) turns = 1 ≤ turns
 
   abbrev pub StepHasTurns : Option Stream → RefreshStep → (turns : ℕ) → Type 0
@@ -65,7 +66,7 @@ module _ (objects : Path) (folders : List Path) (entries : ℕ) where
     -- what is left after an answer to an ask
     abbrev Goes : Refresh → Ask → Answer → Type 0
     Goes refresh ask answer =
-        IsAnswerTo ask answer → HasAtMost entries (stream_by stream ask answer) → StepHasTurns (stream_by stream ask answer) (fed objects folders refresh answer) turns
+        IsAnswerTo ask answer → HasAtMost entries (stream_by stream ask answer) → StepHasTurns (stream_by stream ask answer) (fed objects store refresh answer) turns
 
     view_goes : (view : View) → listing_turns + 2 ≤ suc turns → StepHasTurns stream (by_view objects view) turns
     view_goes view enough = by view.read
@@ -83,17 +84,18 @@ module _ (objects : Path) (folders : List Path) (entries : ℕ) where
     look_goes enough (told.Core (Ok effect)) is fits = shown_goes (view_shown effect) is enough
     look_goes enough (told.Core (Err refusal)) is fits = tt
 
-    listed_goes : (now : Option Stream) (step : ListStep) → ListsFor folders entries (turns - 1) now step → 1 ≤ turns → StepHasTurns now (by_listed step) turns
+    listed_goes : (now : Option Stream) (step : ListStep) → ListsFor store entries (turns - 1) now step → 1 ≤ turns → StepHasTurns now (by_listed step) turns
     listed_goes now (listed.More lister) left some = (left.0, omega (arith, left.1, some))
     listed_goes now (listed.Listed listing) left some = some
     listed_goes now listed.Broken left some = tt
+    listed_goes now (listed.TooManyPacks actual path) left some = tt
 
     listing_goes : (lister : Lister) → HasTurns stream (stages.Listing lister) (suc turns) → (answer : Answer)
         → Goes (stages.Listing lister) (asks.Disk (lists.ask_of lister)) answer
     listing_goes lister (counted, few) (told.Disk answer) is fits =
-        let some : 1 ≤ turns = omega (arith, few, lister_turns-pos folders entries lister) in
-        listed_goes (stream_by stream (asks.Disk (lists.ask_of lister)) (told.Disk answer)) (lists.fed folders lister answer)
-        (fed_lists folders entries (turns - 1) stream lister answer counted fits (omega (arith, few, some)))
+        let some : 1 ≤ turns = omega (arith, few, lister_turns-pos store entries lister) in
+        listed_goes (stream_by stream (asks.Disk (lists.ask_of lister)) (told.Disk answer)) (lists.fed store lister answer)
+        (fed_lists store entries (turns - 1) stream lister answer counted fits (omega (arith, few, some)))
         some
     listing_goes lister left (told.Core answer) is fits = absurd is
 
@@ -119,7 +121,7 @@ module _ (objects : Path) (folders : List Path) (entries : ℕ) where
 
     step_goes : (step : RefreshStep) → StepHasTurns stream step (suc turns) → (ask : Ask) (answer : Answer) → asked_of step ≡ Some ask
         → IsAnswerTo ask answer → HasAtMost entries (stream_by stream ask answer)
-        → StepHasTurns (stream_by stream ask answer) (step_fed objects folders step answer) turns
+        → StepHasTurns (stream_by stream ask answer) (step_fed objects store step answer) turns
     step_goes (steps.More refresh) enough ask answer is =
         subst (λ (own : Ask). Goes refresh own answer) (same_Some (ask_of refresh) ask is) (goes refresh enough answer)
     step_goes (steps.Read view) enough ask answer is = absurd (cc is)
@@ -130,7 +132,7 @@ module _ (objects : Path) (folders : List Path) (entries : ℕ) where
   -- ---- all turns
 
   pub turns_taken : (stream : Option Stream) (turns : ℕ) (step : RefreshStep) (exchanges : List Exchange) → StepHasTurns stream step turns
-      → any.AreAsked asked_of (step_fed objects folders) step exchanges
+      → any.AreAsked asked_of (step_fed objects store) step exchanges
       → AreWithin entries stream exchanges
       → AreAnswered exchanges
       → length exchanges ≤ turns
@@ -139,11 +141,11 @@ module _ (objects : Path) (folders : List Path) (entries : ℕ) where
       absurd (asking_has_turns stream step exchange.ask asked.0 enough)
   turns_taken stream (suc turns) step (exchange ∷ exchanges) enough asked within answered =
       let rest =
-      turns_taken (stream_by stream exchange.ask exchange.answer) turns (step_fed objects folders step exchange.answer) exchanges
+      turns_taken (stream_by stream exchange.ask exchange.answer) turns (step_fed objects store step exchange.answer) exchanges
       (step_goes stream turns step enough exchange.ask exchange.answer asked.0 answered.0 within.0) asked.1 within.1 answered.1
       in
       omega (arith, rest)
 
   -- a lap has room for a read of the core's state, a listing and its publishing
-  pub lap_is_wide : (slots : ℕ) → listing_turns + 2 ≤ turns_of_lap slots (suc (length folders)) entries
-  lap_is_wide slots = wide slots (length folders) entries
+  pub lap_is_wide : (slots : ℕ) → listing_turns + 2 ≤ turns_of_lap slots (suc (length store.folders)) entries
+  lap_is_wide slots = wide slots (length store.folders) entries

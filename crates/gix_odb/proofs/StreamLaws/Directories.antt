@@ -7,7 +7,7 @@ use Rattle.std.proofs.lemmas.List.Elements.{Contains-append_left, Contains-appen
 use Rattle.odb_base.specs.Path.{Name, Path}
 use Rattle.odb_disk.specs.Entries.{entry_of, opened}
 use Rattle.odb_disk.specs.Tree.{State, Tree, node_at, tree_of}
-use Rattle.odb_disk.specs.Tree.Follow.{listed, looked}
+use Rattle.odb_disk.specs.Tree.Follow.{listed, looked, meta_of}
 use Rattle.odb_disk.specs.declared.change.Change.{Change}
 use Rattle.odb_disk.specs.declared.disk_error.DiskError.TheVariants as errors
 use Rattle.odb_disk.specs.declared.entry.Entry.{Entry}
@@ -22,7 +22,7 @@ use Rattle.odb_disk.specs.declared.ask.DiskAsk.TheVariants as asks
 use Rattle.gix_odb.proofs.StreamLaws.Calls.{stream_gives_what_is_coming, stream_is_opened}
 use Rattle.gix_odb.proofs.StreamLaws.Calls.{stream_is_kept_by_another_state, stream_is_kept_by_other_calls, stream_is_kept_by_outside_changes}
 use Rattle.gix_odb.proofs.StreamLaws.Entries.{node_is_opened, opened_entry_is_of_a_node, opened_names_are_listed, opens_at}
-use Rattle.gix_odb.proofs.StreamLaws.Looks.{entry_of-meta, name_is_looked_at}
+use Rattle.gix_odb.proofs.StreamLaws.Looks.{entry_of-meta, name_is_looked_at, node_is_looked_at}
 use Rattle.gix_odb.specs.OpenStream.{entry_from}
 use Rattle.gix_odb.specs.OpenStream.{GivesNext, IsListed, IsOnStream, IsReadOf, IsStreamOf, ListsFile, given_by}
 
@@ -53,6 +53,15 @@ looked_name_is_listed tree folder entries name meta opens is =
     let looks = name_is_looked_at tree folder name at.place meta at.leads at.directory is in
     let has = node_is_opened tree folder entries opens name looks.node looks.at in
     record { entries = entries; opens = opens; among = subst (Contains entries) (entry_of-meta looks.node name meta looks.is) has }
+
+-- an entry that is listed is found by the stat of its name, as a node of its kind
+pub listed_entry_is_looked_at : (tree : Tree) (folder : Path) (entry : Entry) → IsListed tree folder entry
+    → (meta : Meta) × (looked tree (folder ++ entry.name ∷ []) false ≡ Ok meta) × (meta.kind ≡ entry.kind)
+listed_entry_is_looked_at tree folder entry is =
+    let at = opens_at tree folder is.entries is.opens in
+    let here = opened_entry_is_of_a_node tree folder is.entries is.opens entry is.among in
+    let same : entry ≡ entry_from entry.name (meta_of here.node) = here.is ∙ entry_of-meta here.node entry.name (meta_of here.node) refl in
+    (meta_of here.node, node_is_looked_at tree folder entry.name at.place here.node at.leads at.directory here.at, sym (ap (λ (e : Entry). e.kind) same))
 
 -- so where it finds a file, the directory lists a file of that name
 pub looked_file_is_listed : (tree : Tree) (folder : Path) (entries : List Entry) (name : Name) (meta : Meta) → opened tree folder ≡ Ok entries

@@ -1,5 +1,5 @@
 -- Laws of what exchanges tell of the stream that is open: they tell what it has given, and its next answer is fair.
-use Rattle.std.proofs.Common.{◌≡◌, ℕ, List, length, Some, Ok, refl, sym, subst}
+use Rattle.std.proofs.Common.{◌≡◌, ℕ, List, length, Option, Some, Ok, refl, sym, subst}
 use Rattle.odb_base.specs.Path.{Name, Path}
 use Rattle.odb_disk.specs.Tree.{Tree}
 use Rattle.odb_disk.specs.Tree.Follow.{listed}
@@ -12,10 +12,11 @@ use Rattle.odb_disk.specs.declared.ask.DiskAsk.TheVariants as disk_asks
 use Rattle.gix_hash.specs.declared.kind.Kind.{Kind}
 use Rattle.gix_hash.specs.declared.object_id.ObjectId.{ObjectId}
 use Rattle.gix_odb_search.specs.PackFolder.{pack_folder}
+use Rattle.gix_odb_search.specs.declared.multi_pack.MultiUse.{MultiUse}
 use Rattle.gix_odb_events.specs.declared.answer.Answer.TheVariants as told
 use Rattle.gix_odb_events.specs.declared.answer.Ask.TheVariants as asks
 use Rattle.gix_odb.specs.LookExchanges.{Exchange}
-use Rattle.gix_odb.specs.Fair.{IsFair, IsStreamFair, PackedPlace}
+use Rattle.gix_odb.specs.Fair.{IsFair, IsStreamFair, PackedPlace, carrier_name}
 use Rattle.gix_odb.specs.Stream.{Stream, reads, stream_by, stream_in}
 use Rattle.gix_odb.specs.Laps.{HasAtMost}
 use Rattle.gix_odb.proofs.StreamLaws.Directories.{name_is_given_before_the_end, next_entry_of_the_name_is_a_file}
@@ -37,14 +38,14 @@ reads-given folder dir given answers.Done = refl
 
 -- ---- its next answer
 
--- the next answer of the open stream is fair, if its directory listed the index as a file when it was opened
-module _ (hash : Kind) (id : ObjectId) (place : PackedPlace)
+-- the next answer of the open stream is fair, if its directory listed the carrier as a file when it was opened
+module _ (multi : Option MultiUse) (hash : Kind) (id : ObjectId) (place : PackedPlace)
     (tree : Tree) (disk : Volume) (stream : Stream) (coming : List Entry) (streams : IsStreamOf tree stream.folder disk stream.dir stream.entries coming)
-    (lists : stream.folder ≡ pack_folder place.folder → ListsFile tree stream.folder place.name) where
+    (lists : stream.folder ≡ pack_folder place.folder → ListsFile tree stream.folder (carrier_name place)) where
   fair_by : (answer : DiskAnswer) → answer_now disk (disk_asks.NextEntry stream.dir) ≡ answer → IsStreamFair place (Some stream) answer
   fair_by (answers.Entry entry) is = λ here named.
-      next_entry_of_the_name_is_a_file tree stream.folder disk stream.dir stream.entries coming streams place.name (lists here) entry is named
-  fair_by answers.End is = λ here. name_is_given_before_the_end tree stream.folder disk stream.dir stream.entries coming streams place.name (lists here) is
+      next_entry_of_the_name_is_a_file tree stream.folder disk stream.dir stream.entries coming streams (carrier_name place) (lists here) entry is named
+  fair_by answers.End is = λ here. name_is_given_before_the_end tree stream.folder disk stream.dir stream.entries coming streams (carrier_name place) (lists here) is
   fair_by (answers.Refused error) is = tt
   fair_by (answers.Meta meta) is = tt
   fair_by (answers.File bytes time) is = tt
@@ -52,7 +53,7 @@ module _ (hash : Kind) (id : ObjectId) (place : PackedPlace)
   fair_by answers.Done is = tt
 
   pub next_answer_is_fair : (past : List Exchange) → stream_in past ≡ Some stream
-      → IsFair hash id place past (asks.Disk (disk_asks.NextEntry stream.dir)) (told.Disk (answer_now disk (disk_asks.NextEntry stream.dir)))
+      → IsFair multi hash id place past (asks.Disk (disk_asks.NextEntry stream.dir)) (told.Disk (answer_now disk (disk_asks.NextEntry stream.dir)))
   next_answer_is_fair past last =
       let answer = answer_now disk (disk_asks.NextEntry stream.dir) in subst (λ o. IsStreamFair place o answer) (sym last) (fair_by answer refl)
 

@@ -110,6 +110,13 @@ name_is_looked_at tree folder name place meta leads directory is =
     let below = place.path ++ name ∷ [] in
     looked_at tree below meta (node_at tree below) refl (sym (ap meta_of_place (name_leads tree name place directory most_links folder leads)) ∙ is)
 
+-- a node that the folder's directory has under the name is the one that is statted
+pub node_is_looked_at : (tree : Tree) (folder : Path) (name : Name) (place : Place) (node : Node) → followed tree true folder ≡ Ok place
+    → place.node.content ≡ Dir → node_at tree (place.path ++ name ∷ []) ≡ Some node → looked tree (folder ++ name ∷ []) false ≡ Ok (meta_of node)
+unfolding looked
+node_is_looked_at tree folder name place node leads directory at =
+    ap meta_of_place (name_leads tree name place directory most_links folder leads ∙ ap (stands tree name (place.path ++ name ∷ [])) at)
+
 -- the entry of a node has the kind and the inode number of its stat
 entry_of-content : (dev ino : ℕ) (name : Name) (content : Content)
     → record { name = name; kind = kind_of content; ino = ino } ≡ entry_from name (meta_with dev ino content)

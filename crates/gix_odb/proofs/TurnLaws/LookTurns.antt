@@ -29,6 +29,7 @@ use Rattle.gix_odb.proofs.TurnLaws.LapsLeft.{IsFurther-less, IsFurther-on, rises
 use Rattle.gix_odb.proofs.ListerLaws.Turns.{ListsFor, fed_lists, lister_turns, lister_turns-pos}
 use Rattle.gix_odb.proofs.TurnLaws.PartTurns.{tried_left, verdict_left}
 use Rattle.gix_odb.proofs.TurnLaws.TrierTurns.{fed_tries}
+use Rattle.gix_odb.specs.Store.{listed_for}
 
 -- what is known of lists, and of streams after an open one
 abbrev pub IsTold : (slots entries before : ℕ) (stream : Option Stream) → Option Ask → Answer → Type 0
@@ -42,19 +43,20 @@ stream_behind stream (Some ask) answer = stream_by stream ask answer
 module _ (bounds : Bounds) where
   listed_left : (head : LookHead) (base before : ℕ) (stream : Option Stream) (turns room : ℕ) (purpose : Purpose) (notes : Notes) (step : ListStep)
       → IsFor base step
-      → ListsFor bounds.setting.parts.folders bounds.entries room stream step
+      → ListsFor (listed_for bounds.setting.parts) bounds.entries room stream step
       → HasFurther bounds head base before (room + settling bounds) turns
       → LookHasLeft bounds (by_refresh bounds.setting head purpose notes (by_listed step)) before stream turns
   listed_left head base before stream turns room purpose notes (listed.More lister) is few has =
-      let enough : HasFurther bounds head base before (lister_turns bounds.setting.parts.folders bounds.entries lister + settling bounds) turns =
+      let enough : HasFurther bounds head base before (lister_turns (listed_for bounds.setting.parts) bounds.entries lister + settling bounds) turns =
       IsFurther-less has (omega (arith, few.1)) in (
         few.0,
-        subst (λ (number : ℕ). HasFurther bounds head number before (lister_turns bounds.setting.parts.folders bounds.entries lister + settling bounds) turns) (sym is) enough,
+        subst (λ (number : ℕ). HasFurther bounds head number before (lister_turns (listed_for bounds.setting.parts) bounds.entries lister + settling bounds) turns) (sym is) enough,
       )
   listed_left head base before stream turns room purpose notes (listed.Listed listing) is few has =
       let enough : HasFurther bounds head base before (settling bounds) turns = IsFurther-less has (omega arith) in
       subst (λ (number : ℕ). HasFurther bounds head number before (settling bounds) turns) (sym is) enough
   listed_left head base before stream turns room purpose notes listed.Broken is few has = tt
+  listed_left head base before stream turns room purpose notes (listed.TooManyPacks actual path) is few has = tt
 
   pub fed_left : (head : LookHead) (stage : LookStage) (before : ℕ) (stream : Option Stream) (turns : ℕ) (answer : Answer)
       → IsTold bounds.slots bounds.entries before stream (ask_at stage) answer
@@ -90,12 +92,12 @@ module _ (bounds : Bounds) where
       read_left bounds head purpose before stream turns view notes is.0.0 (is.0.2 view refl) has
   fed_left head (stages.Refreshing fronts.Reading purpose notes) before stream turns (told.Core (Ok effect)) is has = absurd (cc is.1.1)
   fed_left head (stages.Refreshing (fronts.Listing lister) purpose notes) before stream turns (told.Disk answer) is has =
-      let some = lister_turns-pos bounds.setting.parts.folders bounds.entries lister in
-      let room = lister_turns bounds.setting.parts.folders bounds.entries lister - 1 in
+      let some = lister_turns-pos (listed_for bounds.setting.parts) bounds.entries lister in
+      let room = lister_turns (listed_for bounds.setting.parts) bounds.entries lister - 1 in
       let now = stream_by stream (asks.Disk (lists.ask_of lister)) (told.Disk answer) in
-      listed_left (seen head (told.Disk answer)) lister.head.base before now turns room purpose notes (lists.fed bounds.setting.parts.folders lister answer)
-      (listing_keeps_its_base bounds.setting.parts.folders lister answer)
-      (fed_lists bounds.setting.parts.folders bounds.entries room stream lister answer has.0 is.2 (omega arith))
+      listed_left (seen head (told.Disk answer)) lister.head.base before now turns room purpose notes (lists.fed (listed_for bounds.setting.parts) lister answer)
+      (listing_keeps_its_base (listed_for bounds.setting.parts) lister answer)
+      (fed_lists (listed_for bounds.setting.parts) bounds.entries room stream lister answer has.0 is.2 (omega arith))
       (IsFurther-on (told.Disk answer) before has.1 (omega arith) (omega arith))
   fed_left head (stages.Refreshing (fronts.Listing lister) purpose notes) before stream turns (told.Core answer) is has = absurd is.1
   fed_left head (stages.Refreshing (fronts.Publishing rows) purpose notes) before stream turns (told.Disk answer) is has = absurd is.1

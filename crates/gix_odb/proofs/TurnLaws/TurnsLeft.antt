@@ -17,6 +17,7 @@ use Rattle.gix_odb.specs.declared.look_up.Purpose.{Purpose}
 use Rattle.gix_odb.specs.declared.look_up.Purpose.TheVariants as purposes
 use Rattle.gix_odb.proofs.TurnLaws.LapsLeft.{IsFirst, IsFurther, IsFirst-less, IsFirst-on, IsFurther-less, IsFurther-on}
 use Rattle.gix_odb.proofs.ListerLaws.Turns.{IsCounted, folder_turns, further, lister_turns}
+use Rattle.gix_odb.specs.Store.{listed_for}
 
 -- the turns after a listing: the publish, the list, the loose folders, and a read of the core's state
 abbrev pub settling_turns : (slots folders : ℕ) → ℕ
@@ -28,7 +29,7 @@ pub record Bounds : Type 0 where
   pub slots : ℕ
   pub entries : ℕ
   pub lap : ℕ
-  pub wide : folder_turns setting.parts.folders entries + further setting.parts.folders entries 0 + settling_turns slots (length setting.parts.folders) ≤ lap
+  pub wide : folder_turns (listed_for setting.parts) entries + further (listed_for setting.parts) entries 0 + settling_turns slots (length setting.parts.folders) ≤ lap
 
 module _ (bounds : Bounds) where
   abbrev pub folders : ℕ
@@ -67,8 +68,8 @@ module _ (bounds : Bounds) where
   HasLeft head (stages.Loose round call) before stream turns = OfPart head round.part before ((folders - round.next) + 1) turns
   HasLeft head (stages.Refreshing fronts.Reading purpose notes) before stream turns = OfPurpose head purpose before turns
   HasLeft head (stages.Refreshing (fronts.Listing lister) purpose notes) before stream turns =
-      IsCounted bounds.setting.parts.folders bounds.entries stream lister
-      × HasFurther head lister.head.base before (lister_turns bounds.setting.parts.folders bounds.entries lister + settling) turns
+      IsCounted (listed_for bounds.setting.parts) bounds.entries stream lister
+      × HasFurther head lister.head.base before (lister_turns (listed_for bounds.setting.parts) bounds.entries lister + settling) turns
   HasLeft head (stages.Refreshing (fronts.Publishing listing) purpose notes) before stream turns = HasFurther head listing.base before settling turns
   HasLeft head (stages.Checking number notes) before stream turns = HasFurther head number before 1 turns
   HasLeft head (stages.Done reply) before stream turns = Unit {0}

@@ -29,7 +29,7 @@ pub(super) fn by_answer(
     requires suits { IsAnswerTo (refreshes.ask_of refresh) answer }
     ensures by { IfOk result (λ look. look ≡ order.fed_at (setting_of setting.now) head (LookStage.Refreshing refresh purpose notes) answer) }
 {
-    match refresh.feed(alloc, setting.parts, answer) {
+    match refresh.feed(alloc, setting.parts, setting.loaded, answer) {
         Ok(step) => by_refresh(alloc, setting, head, purpose, notes, step),
         Err(error) => {
             drop(notes);

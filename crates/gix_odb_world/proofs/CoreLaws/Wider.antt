@@ -1,5 +1,5 @@
 -- Where more is shown, and more is said of loose objects, all that was true, found or a cause before still is.
-use Rattle.std.proofs.Common.{ℕ, List}
+use Rattle.std.proofs.Common.{ℕ, List, Option, Some, None, inl, inr}
 use Rattle.std.proofs.lemmas.List.Elements.{All-weaker}
 use Rattle.odb_base.specs.Path.{Path}
 use Rattle.odb_disk.specs.declared.ask.DiskAnswer.{DiskAnswer}
@@ -12,10 +12,12 @@ use Rattle.gix_pack_read.specs.FileBytes.{FileBytes}
 use Rattle.gix_pack_read.specs.declared.data.Error as pack
 use Rattle.gix_pack_read.specs.declared.data.Error.TheVariants as pack_errors
 use Rattle.gix_odb_events.specs.PackFiles.{PackFile}
+use Rattle.gix_odb_events.specs.declared.listing.ListingRow.{ListingRow}
+use Rattle.gix_odb_events.specs.declared.loaded.LoadedIndex.{LoadedIndex}
+use Rattle.gix_odb_events.specs.declared.loaded.LoadedIndex.TheVariants.{Single, Multi}
 use Rattle.gix_odb_events.specs.declared.loaded.SnapshotIndex.{SnapshotIndex}
 use Rattle.gix_odb_events.specs.declared.event.Event.{Event}
 use Rattle.gix_odb_events.specs.declared.event.Event.TheVariants as events
-use Rattle.gix_odb_events.specs.declared.event.Refusal.{Refusal}
 use Rattle.gix_odb_events.specs.declared.view.View.{View}
 use Rattle.gix_odb_events.specs.declared.answer.Answer.{Answer}
 use Rattle.gix_odb_events.specs.declared.answer.Answer.TheVariants as told
@@ -32,29 +34,33 @@ use Rattle.gix_odb.specs.Caused.{IsCaused, IsLoadCaused, IsPackError, IsUnloaded
 use Rattle.gix_odb.specs.LookExchanges.{Exchange}
 use Rattle.gix_odb.specs.Found.{IsFound, IsInIndex, IsInPack}
 use Rattle.gix_odb.specs.LookUpOrder.{Setting}
-use Rattle.gix_odb.specs.Shown.{IsHanded, IsIndexShownAt, IsPackShownAt, IsPackShown, IsIndexShown, IsShownView}
+use Rattle.gix_odb.specs.Shown.{IsContentShown, IsFileShown, IsHanded, IsIndexShown, IsIndexShownAt, IsPackShown, IsPackShownAt, IsRowHanded, IsShownView, ShowedBytes}
 use Rattle.gix_odb.specs.True.{AreTrue, IsTrue}
 
-module _ (Shown Wider : Path → List ℕ → Type 0) (wider : (path : Path) (bytes : List ℕ) → Shown path bytes → Wider path bytes)
+module _ (Shown Wider : Path → ℕ → List ℕ → Type 0) (wider : (path : Path) (time : ℕ) (bytes : List ℕ) → Shown path time bytes → Wider path time bytes)
     (setting : Setting) (hash : Kind) where
+  showed-wider : (path : Path) (bytes : List ℕ) → ShowedBytes Shown path bytes → ShowedBytes Wider path bytes
+  showed-wider path bytes (time, shown) = (time, wider path time bytes shown)
+
   -- ---- what is read and shown
 
   IsIndexShownAt-wider : (path : Path) (file : FileBytes) → IsIndexShownAt Shown setting hash path file → IsIndexShownAt Wider setting hash path file
-  IsIndexShownAt-wider path file is = record { kind = is.kind; parsed = is.parsed; shown = wider path file.bytes is.shown }
+  IsIndexShownAt-wider path file is = record { kind = is.kind; parsed = is.parsed; shown = showed-wider path file.bytes is.shown }
 
   IsPackShownAt-wider : (path : Path) (file : FileBytes) → IsPackShownAt Shown setting hash path file → IsPackShownAt Wider setting hash path file
-  IsPackShownAt-wider path file is = record { kind = is.kind; parsed = is.parsed; shown = wider path file.bytes is.shown }
+  IsPackShownAt-wider path file is = record { kind = is.kind; parsed = is.parsed; shown = showed-wider path file.bytes is.shown }
 
   IsPackShown-wider : (pack : PackFile) → IsPackShown Shown setting hash pack → IsPackShown Wider setting hash pack
   IsPackShown-wider pack read = λ file is. IsPackShownAt-wider pack.path file (read file is)
 
+  IsFileShown-wider : (path : Path) (l : LoadedIndex) → IsFileShown Shown setting hash path l → IsFileShown Wider setting hash path l
+  IsFileShown-wider path (Single file) is = record { at = is.at; there = IsIndexShownAt-wider path file is.there }
+  IsFileShown-wider path (Multi bytes) is = record { at = is.at; shown = showed-wider path bytes is.shown }
+
   IsIndexShown-wider : (index : SnapshotIndex) → IsIndexShown Shown setting hash index → IsIndexShown Wider setting hash index
   IsIndexShown-wider index is = record {
-    file = is.file;
-    single = is.single;
-    at = is.at;
-    there = IsIndexShownAt-wider index.path is.file is.there;
-    one = is.one;
+    file = IsFileShown-wider index.path index.index is.file;
+    are = is.are;
     packs = All-weaker (IsPackShown Shown setting hash) (IsPackShown Wider setting hash) IsPackShown-wider index.packs is.packs;
   }
 
@@ -65,16 +71,40 @@ module _ (Shown Wider : Path → List ℕ → Type 0) (wider : (path : Path) (by
     todo = is.todo;
   }
 
+  content-wider : (row : ListingRow) (multi : Option (List ℕ)) → IsContentShown Shown setting hash row multi → IsContentShown Wider setting hash row multi
+  content-wider row None shown = tt
+  content-wider row (Some bytes) shown = wider row.path row.time bytes shown
+
   pub IsHanded-wider : (event : Event) → IsHanded Shown setting hash event → IsHanded Wider setting hash event
   IsHanded-wider (events.PutIndex slot path file) handed = (handed.0, IsIndexShownAt-wider path file handed.1)
   IsHanded-wider (events.PutPack pack path file) handed = IsPackShownAt-wider path file handed
+  IsHanded-wider (events.Publish listing) handed =
+      All-weaker (IsRowHanded Shown setting hash) (IsRowHanded Wider setting hash) (λ row own. (own.0, content-wider row row.multi own.1)) listing.rows handed
   IsHanded-wider event handed = handed
 
   -- ---- what is found
 
   module _ (id : ObjectId) where
-    IsInIndex-wider : (path : Path) (offset : ℕ) → IsInIndex Shown setting hash id path offset → IsInIndex Wider setting hash id path offset
-    IsInIndex-wider path offset is = record { at = is.at; bytes = is.bytes; shown = wider path is.bytes is.shown; gives = is.gives }
+    IsInIndex-wider : (pack : Path) (offset : ℕ) → IsInIndex Shown setting hash id pack offset → IsInIndex Wider setting hash id pack offset
+    IsInIndex-wider pack offset (inl single) =
+        inl (record {
+          path = single.path;
+          at = single.at;
+          is = single.is;
+          bytes = single.bytes;
+          shown = showed-wider single.path single.bytes single.shown;
+          gives = single.gives;
+        })
+    IsInIndex-wider pack offset (inr multi) =
+        inr (record {
+          path = multi.path;
+          at = multi.at;
+          name = multi.name;
+          is = multi.is;
+          bytes = multi.bytes;
+          shown = showed-wider multi.path multi.bytes multi.shown;
+          gives = multi.gives;
+        })
 
     IsInPack-wider : (Content : (pack : List ℕ) → (offset : ℕ) → Type 0) → IsInPack Shown setting hash id Content
         → IsInPack Wider setting hash id Content
@@ -84,7 +114,7 @@ module _ (Shown Wider : Path → List ℕ → Type 0) (wider : (path : Path) (by
       index = IsInIndex-wider is.path is.offset is.index;
       pack = is.pack;
       parsed = is.parsed;
-      shown = wider _ is.pack is.shown;
+      shown = showed-wider is.path is.pack is.shown;
       content = is.content;
     }
 
@@ -97,7 +127,7 @@ module _ (Shown Wider : Path → List ℕ → Type 0) (wider : (path : Path) (by
 
   disk-wider : (ask : DiskAsk) (answer : DiskAnswer) → IsTrue Shown setting hash (asks.Disk ask) (told.Disk answer)
       → IsTrue Wider setting hash (asks.Disk ask) (told.Disk answer)
-  disk-wider (disk_asks.Read path) (disk_answers.File bytes time) is = (is.0, wider path bytes is.1)
+  disk-wider (disk_asks.Read path) (disk_answers.File bytes time) is = (is.0, wider path time bytes is.1)
   disk-wider ask answer is = (is.0, is.1)
 
   pub IsTrue-wider : (ask : Ask) (answer : Answer) → IsTrue Shown setting hash ask answer → IsTrue Wider setting hash ask answer
@@ -144,6 +174,7 @@ module _ (Shown Wider : Path → List ℕ → Type 0) (wider : (path : Path) (by
       IsLoadCaused-wider load_errors.Io is = is
       IsLoadCaused-wider (load_errors.InsufficientSlots current needed) is = is
       IsLoadCaused-wider load_errors.GenerationOverflow is = is
+      IsLoadCaused-wider (load_errors.TooManyPacksInMultiIndex actual limit path) is = is
       IsLoadCaused-wider (load_errors.Unsettled begun own now) is = IsUnsettled-wider begun own now is
       IsLoadCaused-wider load_errors.NoMemory is = is
 

@@ -13,6 +13,7 @@ use Rattle.odb_disk.specs.declared.meta.Kind.TheVariants as kinds
 use Rattle.gix_odb_events.specs.PackId.{most_slots}
 use Rattle.gix_odb_events.specs.declared.listing.Listing.{Listing}
 use Rattle.gix_odb_search.specs.ListOrder as lists
+use Rattle.gix_odb_search.specs.ListedStore.{ListedStore}
 use Rattle.gix_odb_events.specs.declared.answer.Answer.{Answer}
 use Rattle.gix_odb_events.specs.declared.answer.Answer.TheVariants as told
 use Rattle.gix_odb_events.specs.declared.answer.Ask.{Ask}
@@ -28,6 +29,7 @@ use Rattle.gix_odb_calls.specs.declared.init.Slots.{Slots}
 use Rattle.gix_odb_calls.specs.declared.init.Slots.TheVariants.{AsNeededByDiskState, Given}
 use Rattle.gix_odb.specs.LookExchanges.{Exchange, WasTold}
 use Rattle.gix_odb.specs.LookUpOrder.{Setting}
+use Rattle.gix_odb.specs.Store.{listed_for}
 use Rattle.gix_odb.proofs.ListerLaws.Lists.{has_first, has_later}
 use Rattle.gix_odb.specs.ListedFiles.{AreOfTree}
 use Rattle.gix_odb.specs.Asked.{AreSuited, IsSuited}
@@ -44,29 +46,34 @@ one_of_first x xs y (zero, within, is) = inl is
 one_of_first x xs y (suc k, within, is) = inr (k, omega (arith, within), is)
 
 module _ (setting : Setting) (slots : Slots) where
-  abbrev folders : List Path
-  folders = setting.parts.folders
+  abbrev store : ListedStore
+  store = listed_for setting.parts
 
   -- ---- the calls of a listing
 
   -- exchanges are those of a listing that makes these calls, and they have the same result
   pub record HasCalls (step : ListStep) (exchanges : List Exchange) : Type 0 where
     pub calls : List Call
-    pub are : AreCalls folders step calls
-    pub comes : behind_calls folders step calls ≡ list_behind folders step exchanges
+    pub are : AreCalls store step calls
+    pub comes : behind_calls store step calls ≡ list_behind store step exchanges
     pub made : (call : Call) → Contains calls call → WasTold exchanges (asks.Disk call.ask) (told.Disk call.answer)
     pub of_tree : (tree : Tree) (coming : List Entry) → AreOfTree tree coming exchanges → AreCallsOfTree tree coming calls
 
   -- a listing that has ended stays as it is, and makes no call
-  listing_stays : (listing : Listing) (exchanges : List Exchange) → list_behind folders (listed.Listed listing) exchanges ≡ listed.Listed listing
+  listing_stays : (listing : Listing) (exchanges : List Exchange) → list_behind store (listed.Listed listing) exchanges ≡ listed.Listed listing
   listing_stays listing [] = refl
   listing_stays listing (exchange ∷ exchanges) = listing_stays listing exchanges
 
-  broken_stays : (exchanges : List Exchange) → list_behind folders listed.Broken exchanges ≡ listed.Broken
+  broken_stays : (exchanges : List Exchange) → list_behind store listed.Broken exchanges ≡ listed.Broken
   broken_stays [] = refl
   broken_stays (exchange ∷ exchanges) = broken_stays exchanges
 
-  no_calls : (step : ListStep) (exchanges : List Exchange) → list_behind folders step exchanges ≡ step → HasCalls step exchanges
+  many_stay : (actual : ℕ) (path : Path) (exchanges : List Exchange)
+      → list_behind store (listed.TooManyPacks actual path) exchanges ≡ listed.TooManyPacks actual path
+  many_stay actual path [] = refl
+  many_stay actual path (exchange ∷ exchanges) = many_stay actual path exchanges
+
+  no_calls : (step : ListStep) (exchanges : List Exchange) → list_behind store step exchanges ≡ step → HasCalls step exchanges
   no_calls step exchanges stays = record {
     calls = [];
     are = tt;
@@ -85,7 +92,7 @@ module _ (setting : Setting) (slots : Slots) where
         → AreAsked setting slots (fed_by setting slots (opens.Listing lister percent minimum) answer) exchanges
         → HasCalls (listed.More lister) (record { ask = asks.Disk (lists.ask_of lister); answer = answer } ∷ exchanges)
     one_call lister (told.Disk answer) exchanges rest asked =
-        let later = rest (lists.fed folders lister answer) asked in
+        let later = rest (lists.fed store lister answer) asked in
         let exchange : Exchange = record { ask = asks.Disk (lists.ask_of lister); answer = told.Disk answer } in
         let call : Call = record { ask = lists.ask_of lister; answer = answer } in
         record {
@@ -119,6 +126,8 @@ module _ (setting : Setting) (slots : Slots) where
     calls_of_listing (listed.Listed listing) (exchange ∷ exchanges) asked =
         no_calls (listed.Listed listing) (exchange ∷ exchanges) (listing_stays listing (exchange ∷ exchanges))
     calls_of_listing listed.Broken (exchange ∷ exchanges) asked = no_calls listed.Broken (exchange ∷ exchanges) (broken_stays (exchange ∷ exchanges))
+    calls_of_listing (listed.TooManyPacks actual path) (exchange ∷ exchanges) asked =
+        no_calls (listed.TooManyPacks actual path) (exchange ∷ exchanges) (many_stay actual path (exchange ∷ exchanges))
 
   -- ---- where the listing begins
 
@@ -131,7 +140,7 @@ module _ (setting : Setting) (slots : Slots) where
 
   -- the stage begins no listing: what an opening asks for from there on leaves a listing where it was
   abbrev ListsNothing : OpenStage → Type 0
-  ListsNothing state = (exchanges : List Exchange) → AreAsked setting slots state exchanges → AreSuited exchanges → list_behind folders start exchanges ≡ start
+  ListsNothing state = (exchanges : List Exchange) → AreAsked setting slots state exchanges → AreSuited exchanges → list_behind store start exchanges ≡ start
 
   done_lists_nothing : (reply : Reply) → ListsNothing (opens.Done reply)
   done_lists_nothing reply [] asked suited = refl
@@ -147,7 +156,7 @@ module _ (setting : Setting) (slots : Slots) where
     where
       by : (answer : Answer) → IsSuited (asks.NewCore number (length (setting.parts.objects ∷ setting.parts.folders))) answer
           → AreAsked setting slots (fed_by setting slots (opens.Registering number) answer) exchanges
-          → list_behind folders (list_by folders start answer) exchanges ≡ start
+          → list_behind store (list_by store start answer) exchanges ≡ start
       by (told.Disk answer) suits further = absurd suits
       by (told.Core answer) suits further =
           done_lists_nothing (replies.Opened number) exchanges further

@@ -66,6 +66,7 @@ module _ (trees : ℕ → Tree) (Failed : Type 0) (store : Store) (begun now : �
   listing_keeps shown percent minimum (listed.More lister) = shown
   listing_keeps shown percent minimum (listed.Listed listing) = by_number shown (slots_for percent minimum (length listing.rows))
   listing_keeps shown percent minimum listed.Broken = tt
+  listing_keeps shown percent minimum (listed.TooManyPacks actual path) = tt
 
   -- ---- the stat
 

@@ -60,6 +60,7 @@ use Rattle.gix_odb_world.proofs.OpeningMachine.Look.{Looks, listing_keeps, look_
 use Rattle.gix_odb_world.proofs.QuietTurn.{failed_now, shown_now}
 use Rattle.gix_odb_world.proofs.ToldLemmas.{told_none}
 use Rattle.gix_odb_history.proofs.WriteAsk.Quiet.{change_by-quiet}
+use Rattle.gix_odb.specs.Store.{listed_for}
 
 -- what held at some moment before an event held before and with it
 pub shown_before : (first : Volume) (events : List Event) (e : Event) (begun : ℕ) (objects : Path)
@@ -149,7 +150,7 @@ module _ (first : Volume) (events : List Event) (handle : ℕ) (running : Runnin
       call = record { ask = parts.Disk ask; answer = told.Disk answer }
 
       abbrev next : OpenStage
-      next = openings.fed objects store.parts.folders slots state (told.Disk answer)
+      next = openings.fed objects (listed_for store.parts) slots state (told.Disk answer)
 
       told_is : told_since whole handle running.begun ≡ exchanges ++ call ∷ []
       told_is = told_call first events e handle running knows.since knows.well ran ask (own_stream ask is) turn
@@ -163,7 +164,7 @@ module _ (first : Volume) (events : List Event) (handle : ℕ) (running : Runnin
       -- it is at the stage after all answers to its handle by then
       stands : next ≡ opening_now whole handle store running.begun
       stands =
-          ap (λ s. openings.fed objects store.parts.folders slots s (told.Disk answer)) knows.is
+          ap (λ s. openings.fed objects (listed_for store.parts) slots s (told.Disk answer)) knows.is
           ∙ (sym (behind-push (asks_of setting) (fed_by setting slots) opens.Looking exchanges call)
           ∙ ap (behind setting slots opens.Looking) (sym told_is))
 
@@ -246,13 +247,13 @@ module _ (first : Volume) (events : List Event) (e : Event) (handle : ℕ) (runn
   pub listing_comes : (lister : Lister) (percent minimum : ℕ) → IsOpening first events handle running (opens.Listing lister percent minimum)
       → IsTurnAsking first events e handle running (Some (parts.Disk (lists.ask_of lister)))
       → MachineComes first events e handle running opening IsOpening (OfDisk (lists.ask_of lister) (answer_now (disk_after first events) (lists.ask_of lister)))
-      (openings.result_of (openings.listed_on percent minimum (lists.fed running.store.parts.folders lister (answer_now (disk_after first events) (lists.ask_of lister)))))
+      (openings.result_of (openings.listed_on percent minimum (lists.fed (listed_for running.store.parts) lister (answer_now (disk_after first events) (lists.ask_of lister)))))
   listing_comes lister percent minimum knows turn =
       comes_to first events handle running (opens.Listing lister percent minimum) knows e ran (lists.ask_of lister) refl turn
       (listing_keeps (tree_at first (events ++ e ∷ [])) (FailedSince (events ++ e ∷ []) handle running.begun) running.store running.begun (length (events ++ e ∷ []))
       (now_is first events handle running (opens.Listing lister percent minimum) knows e ran)
       (shown_before first events e running.begun running.store.parts.objects knows.seen) percent minimum
-      (lists.fed running.store.parts.folders lister (answer_now (disk_after first events) (lists.ask_of lister))))
+      (lists.fed (listed_for running.store.parts) lister (answer_now (disk_after first events) (lists.ask_of lister))))
 
   -- the turn that registers
   module _ (slots : ℕ) (knows : IsOpening first events handle running (opens.Registering slots))

@@ -1,16 +1,21 @@
--- What a run says of the indices of a store: none shows two contents while its store is open.
-use Rattle.std.proofs.Common.{◌≡◌, ℕ, Bool, true, false, List, length, take, refl, subst}
+-- What a run says of the indices of a store: none shows two contents while its store is open, and no multi-pack index two at one time.
+use Rattle.std.proofs.Common.{◌≡◌, ℕ, Bool, true, false, List, length, take, Option, Some, None, is_some, refl, subst}
 use Rattle.std.specs.Prelude.{◌&&◌, ◌||◌, codes, nat_eq, nat_lt}
 use Rattle.std.specs.List.{ends_with}
 use Rattle.std.proofs.lemmas.Bool.{false≢true}
-use Rattle.odb_base.specs.Path.{Name, is_name}
+use Rattle.odb_base.specs.Path.{Name, Path, is_name}
 use Rattle.odb_disk.specs.MemDisk.{Volume}
-use Rattle.gix_odb_search.specs.PackFolder.{is_index_name}
+use Rattle.odb_disk.specs.Tree.{Tree}
+use Rattle.gix_odb_search.specs.PackFolder.{is_index_name, multi_index_name}
+use Rattle.gix_odb.specs.Contents.{ShowsFileAt}
+use Rattle.gix_odb.specs.Held.{index_path, multi_path}
+use Rattle.gix_odb_watch.specs.Watched.{Shows, watched_kind}
+use Rattle.gix_odb_watch.proofs.ReadLaws.{shows_read}
 use Rattle.gix_odb_world.specs.AtWork.{Modes, Running, Store}
 use Rattle.gix_odb_world.specs.Begun.{FromClone, FromOpen, Holds, IsOpenStore, OpenedBy}
 use Rattle.gix_odb_history.specs.Event.{Event}
 use Rattle.gix_odb_history.specs.Run.{tree_at}
-use Rattle.gix_odb_world.specs.Running.PackedStill.{IndicesShowOne}
+use Rattle.gix_odb_world.specs.Running.PackedStill.{IndicesShowOne, MultisShowOne}
 use Rattle.gix_odb_world.proofs.BegunLemmas.{stems_now}
 use Rattle.gix_odb_world.proofs.BegunLemmas.OneEvent.{Stems}
 use Rattle.gix_odb_world.proofs.LawfulRun.{LawfulRun}
@@ -61,12 +66,38 @@ index_ends name named =
     one_of (ends_with nat_eq name (codes ".idx")) (ends_with nat_eq name (codes ".pack"))
     (last_of (is_name name) (nat_lt 4 (length name)) (ends_with nat_eq name (codes ".idx")) named)
 
--- No step of a lawful run makes a path of an index show a second content, from the first opening on that names its folder.
-pub indices_show_one : (first : Volume) (events : List Event) (handle : ℕ) (running : Running) → IsRunning first events handle running
-    → IndicesShowOne (tree_at first events) running.store (length events)
-indices_show_one first events handle running ran folder among name named one other was further =
-    let run : LawfulRun = record { first = first; events = events; start = ran.start; lawful = ran.lawful; throughout = ran.throughout } in
-    let stems = subst (Stems events handle) ran.status (stems_now first events ran.lawful handle) in
-    let opened = opened_by running.store events handle running.modes stems.0 in
-    shows_one run opened.0 running.store opened.1 folder among name (index_ends name named) was.moment further.moment one other was.was.0 further.was.0
-    was.from was.to further.from further.to was.was.1 further.was.1
+-- ---- the rule
+
+found : {A : Type 0} (o : Option A) → is_some o ≡ true → (a : A) × (o ≡ Some a)
+found None is = absurd (cc is)
+found (Some a) is = (a, refl)
+
+module _ (first : Volume) (events : List Event) (handle : ℕ) (running : Running) (ran : IsRunning first events handle running) where
+  abbrev trees : ℕ → Tree
+  trees = tree_at first events
+
+  abbrev run : LawfulRun
+  run = record { first = first; events = events; start = ran.start; lawful = ran.lawful; throughout = ran.throughout }
+
+  opener : (number : ℕ) × IsOpenStore events number running.store
+  opener = opened_by running.store events handle running.modes (subst (Stems events handle) ran.status (stems_now first events ran.lawful handle)).0
+
+  -- No step of a lawful run makes a path of an index show a second content, from the first opening on that names its folder.
+  pub indices_show_one : IndicesShowOne trees running.store (length events)
+  indices_show_one folder among name named one other was further =
+      shows_one run opener.0 running.store opener.1 folder among (index_path folder name) 0 was.moment further.moment one other was.from was.to further.from further.to
+      (shows_read folder (trees was.moment) name one was.was.0 (index_ends name named) was.was.1)
+      (shows_read folder (trees further.moment) name other further.was.0 (index_ends name named) further.was.1)
+
+  -- what a multi-pack index shows counts under its own time
+  multi_shows : (folder : Path) (tree : Tree) (time : ℕ) (bytes : List ℕ) → ShowsFileAt tree (multi_path folder) time bytes → Shows folder tree (multi_path folder) time bytes
+  unfolding found
+  multi_shows folder tree time bytes reads =
+      let kind = found (watched_kind multi_index_name) refl in
+      record { name = multi_index_name; path_is = refl; kind = kind.0; is_watched = kind.1; at = time; reads = reads; counts = refl }
+
+  -- And none makes a multi-pack index show a second one at one time.
+  pub multis_show_one : MultisShowOne trees running.store (length events)
+  multis_show_one folder among time one other was further =
+      shows_one run opener.0 running.store opener.1 folder among (multi_path folder) time was.moment further.moment one other was.from was.to further.from further.to
+      (multi_shows folder (trees was.moment) time one was.was) (multi_shows folder (trees further.moment) time other further.was)

@@ -1,6 +1,7 @@
 -- What a call passes to the core of its store as a listing, by the work that it is at.
 use Rattle.std.proofs.Common.{◌≡◌, ℕ, List, [], take, Option, Some, None, sym, ap, ◌∙◌, subst, arith}
 use Rattle.std.specs.List.{All}
+use Rattle.std.proofs.lemmas.List.Elements.{All-weaker}
 use Rattle.std.proofs.lemmas.Option.{slice_get_within}
 use Rattle.odb_disk.specs.MemDisk.{Volume}
 use Rattle.odb_disk.specs.declared.ask.DiskAsk.{DiskAsk}
@@ -16,7 +17,8 @@ use Rattle.gix_odb_events.specs.declared.answer.Answer.TheVariants as told_by
 use Rattle.gix_odb_events.specs.declared.answer.Ask.TheVariants as parts
 use Rattle.gix_odb.specs.LookExchanges.{Exchange, WasTold}
 use Rattle.gix_odb.specs.LookUpOrder as looks
-use Rattle.gix_odb.specs.Shown.{IsIndexRow}
+use Rattle.gix_odb.specs.Shown.{IsIndexRow, IsRowHanded}
+use Rattle.gix_odb.specs.Store.{listed_for}
 use Rattle.gix_odb.proofs.FoundLaws.{what_is_handed_was_shown}
 use Rattle.gix_odb.proofs.HandedLaws.{rows_of_a_listing_have_different_paths}
 use Rattle.gix_odb.specs.ListedFiles.{AreOfTree, listed_in}
@@ -53,13 +55,13 @@ no_event (Some ask) event is = cc is
 
 -- ---- a listing that is passed on
 
--- The rows of a listing have different paths; each is that of an index in the pack directory of one of the store's folders, and was seen in the
+-- The rows of a listing have different paths; each is that of an index, or of the multi-pack index, in the pack directory of one of the store's folders, and was seen in the
 -- handle's answers; and where one tree gave all of them, they are the tree's listed files.
 pub record IsListed (store : Store) (told : List Exchange) (listing : Listing) : Type 0 where
   pub different : HasDifferentPaths listing.rows
   pub at : All (IsIndexRow (setting_in store)) listing.rows
   pub seen : All (IsRowSeen (λ ask answer. WasTold told (parts.Disk ask) (told_by.Disk answer))) listing.rows
-  pub of_tree : (tree : Tree) → AreOfTree tree [] told → listing.rows ≡ longest_first (listed_in tree (folder_list store.parts))
+  pub of_tree : (tree : Tree) → AreOfTree tree [] told → listing.rows ≡ longest_first (listed_in tree (listed_for store.parts).multi (folder_list store.parts))
 
 module _ (first : Volume) (events : List Event) (is : IsKnownRun first events) (place : ℕ) (e : Event) (handle : ℕ) (running : Running)
     (turn : IsTurnAt events place e handle running) (listing : Listing) (publishes : AsksCore e (events_of.Publish listing)) where
@@ -94,8 +96,9 @@ module _ (first : Volume) (events : List Event) (is : IsKnownRun first events) (
       record {
         different = rows_of_a_listing_have_different_paths setting knows.fits.distinct view knows.query.want id told knows.asked listing here;
         at =
-            what_is_handed_was_shown (ShownSince first past running.store) setting running.store.parts.object_hash knows.query.want id knows.fits.hashed view
-            knows.well.snapshot told knows.asked knows.well.truth (parts.Core (events_of.Publish listing)) here;
+            All-weaker (IsRowHanded (ShownSince first past running.store) setting running.store.parts.object_hash) (IsIndexRow setting) (λ row own. own.0) listing.rows
+            (what_is_handed_was_shown (ShownSince first past running.store) setting running.store.parts.object_hash knows.query.want id knows.fits.hashed view
+            knows.well.snapshot told knows.asked knows.well.truth (parts.Core (events_of.Publish listing)) here);
         seen = rows_of_a_listing_were_seen setting view knows.query.want id told knows.asked listing here;
         of_tree = rows_of_a_listing_are_those_of_the_tree setting view knows.query.want id told knows.asked listing here;
       }

@@ -12,7 +12,7 @@ use Rattle.gix_object.specs.declared.kind.Kind.{Kind}
 use Rattle.gix_odb_calls.specs.declared.call.Reply.TheVariants as replies
 use Rattle.gix_object.specs.declared.want.Want.TheVariants as wants
 use Rattle.gix_odb_calls.specs.declared.step.Outcome.TheVariants as outcomes
-use Rattle.gix_odb.specs.Contents.{Contents, InIndex, InPack, LooseFile, Object, sought}
+use Rattle.gix_odb.specs.Contents.{Contents, InIndex, InMulti, InMultiPack, InPack, LooseFile, Object, sought}
 use Rattle.gix_odb.specs.Held.{Held, WasShown, WasShownAt}
 use Rattle.gix_odb_world.specs.AtWork.{MakeCall, Running}
 use Rattle.gix_odb_world.specs.Begun.{BegunAs}
@@ -51,6 +51,9 @@ module _ (first : Volume) (events : List Event) (place : â„•) (within : place â‰
       (was.0, shown_in_run opened opened now (omega arith) early _ index was.1)
   contents_in_run opened begun now later early folder id (InPack name index pack offset) was =
       (was.0, shown_in_run opened opened now (omega arith) early _ index was.1, shown_in_run opened opened now (omega arith) early _ pack was.2)
+  contents_in_run opened begun now later early folder id (InMulti name multi offset) was = shown_in_run opened opened now (omega arith) early _ multi was
+  contents_in_run opened begun now later early folder id (InMultiPack name multi pack offset) was =
+      (shown_in_run opened opened now (omega arith) early _ multi was.0, shown_in_run opened opened now (omega arith) early _ pack was.1)
 
 -- Where each object in the files of a store, as the run shows them since the store was opened, has data that hash to its id, what a find finds has
 -- data that hash to the id that it seeks.

@@ -16,7 +16,7 @@ use Rattle.gix_odb.specs.LookExchanges.{Exchange, IsLast}
 use Rattle.gix_odb.specs.JustRead.{read_of}
 use Rattle.gix_odb_world.specs.AtWork.{Running}
 use Rattle.gix_odb_history.specs.Event.{Asked, CoreEvent, Event, OfCore, OfDisk, OfNewCore, OfNothing}
-use Rattle.gix_odb_world.specs.Headline.{LeavesDisk}
+use Rattle.gix_odb_world.specs.Headline.{Law, LeavesDisk}
 use Rattle.gix_odb_history.specs.Run.{IsTurnOf, disk_after}
 use Rattle.gix_odb_world.specs.Told.{exchange_of, told_since}
 use Rattle.gix_odb_history.specs.Turned.{is_turn_of}
@@ -160,11 +160,7 @@ module _ (first : Volume) (events : List Event) (next : ℕ) (e : Event) (handle
 same_call : (one other : DiskAsk) (given answer : DiskAnswer) → OfDisk one given ≡ OfDisk other answer → (one ≡ other) × (given ≡ answer)
 same_call one other given answer is = (cc is, cc is)
 
-module _ (first : Volume) (events : List Event) (is : IsKnownRun first events) (place : ℕ) (e : Event) (there : slice_get events place ≡ Some e)
-    (ask : DiskAsk) (answer : DiskAnswer) (asked : e.asked ≡ OfDisk ask answer) where
-  abbrev before : List Event
-  before = take place events
-
+module _ (first : Volume) (before : List Event) (e : Event) (law : Law first before e) (ask : DiskAsk) (answer : DiskAnswer) (asked : e.asked ≡ OfDisk ask answer) where
   by_kind : Kind first before e → answer_now (disk_after first before) ask ≡ answer
   by_kind (Turned turn) =
       let same = same_call turn.works.ask ask (answer_now (disk_after first before) turn.works.ask) answer (sym turn.works.told ∙ asked) in
@@ -172,6 +168,10 @@ module _ (first : Volume) (events : List Event) (is : IsKnownRun first events) (
   by_kind (Made made) = absurd (subst LeavesDisk asked made.leaves)
   by_kind (Quiet quiet) = absurd (subst LeavesDisk asked quiet.leaves)
 
-  -- a call of the disk is answered as the disk would answer it then
-  pub answered_then : answer_now (disk_after first before) ask ≡ answer
-  answered_then = by_kind (kind_of first before e (is.lawful place e there))
+  -- a call of the disk in a lawful event is answered as the disk would answer it then
+  pub answered_by_law : answer_now (disk_after first before) ask ≡ answer
+  answered_by_law = by_kind (kind_of first before e law)
+
+pub answered_then : (first : Volume) (events : List Event) → IsKnownRun first events → (place : ℕ) (e : Event) → slice_get events place ≡ Some e
+    → (ask : DiskAsk) (answer : DiskAnswer) → e.asked ≡ OfDisk ask answer → answer_now (disk_after first (take place events)) ask ≡ answer
+answered_then first events is place e there ask answer asked = answered_by_law first (take place events) e (is.lawful place e there) ask answer asked

@@ -58,6 +58,7 @@ use Rattle.gix_odb.specs.declared.look_up.Purpose.{Purpose}
 use Rattle.gix_odb.specs.declared.look_up.Purpose.TheVariants as purposes
 use Rattle.gix_odb.proofs.MissLaws.Replies.{EndsNoMiss, IsMiss, found_is_no_miss, refused_is_no_miss, verdict_is_no_miss}
 use Rattle.gix_odb_world.specs.RunLaws.Missed.{EndAtLastList, last_list, list_by}
+use Rattle.gix_odb.specs.Store.{listed_for}
 
 -- ---- what passes on no listing
 
@@ -216,6 +217,7 @@ module _ (setting : Setting) (want : Want) where
   listed_is_no_list (listed.More lister) = tt
   listed_is_no_list (listed.Listed listing) = tt
   listed_is_no_list listed.Broken = tt
+  listed_is_no_list (listed.TooManyPacks actual path) = tt
 
   -- ---- an exchange
 
@@ -271,8 +273,8 @@ module _ (setting : Setting) (want : Want) where
       by (told.Core (Err refusal)) = record { own = own; stage = refused_at (of_refusal refusal) }
   goes_at number head own (stages.Refreshing (fronts.Listing lister) purpose notes) at ask (told.Disk answer) is =
       inl
-      (step_at (list_by number ask (told.Disk answer)) head own purpose notes (by_listed (lists.fed setting.parts.folders lister answer))
-      (listed_is_no_list (lists.fed setting.parts.folders lister answer)))
+      (step_at (list_by number ask (told.Disk answer)) head own purpose notes (by_listed (lists.fed (listed_for setting.parts) lister answer))
+      (listed_is_no_list (lists.fed (listed_for setting.parts) lister answer)))
   goes_at number head own (stages.Refreshing (fronts.Listing lister) purpose notes) at ask (told.Core answer) is = inl (record { own = own; stage = tt })
   goes_at number head own (stages.Refreshing (fronts.Publishing listing) purpose notes) at ask (told.Disk answer) is = inl (record { own = own; stage = tt })
   goes_at number head own (stages.Refreshing (fronts.Publishing listing) purpose notes) at ask (told.Core (Ok effect)) is =

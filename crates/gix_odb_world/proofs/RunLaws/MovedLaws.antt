@@ -27,7 +27,8 @@ use Rattle.gix_odb_calls.specs.declared.call.Reply.{Reply}
 use Rattle.gix_odb_calls.specs.declared.query.Query.{Query}
 use Rattle.gix_odb_calls.specs.declared.step.Outcome.TheVariants as outcomes
 use Rattle.gix_odb.specs.LookExchanges.{AreAsked, Exchange, IsAnswerTo, behind}
-use Rattle.gix_odb.specs.Fair.{AreFair, PackedPlace}
+use Rattle.gix_odb.specs.Fair.{AreFair, ItsIndex, PackedPlace}
+use Rattle.gix_odb.specs.Store.{listed_for}
 use Rattle.gix_odb.specs.LookUpOrder.{Setting, ask_of, fed, not_found, result_of, view_of}
 use Rattle.gix_odb.specs.Stream.{stream_in}
 use Rattle.gix_odb.specs.declared.look_up.LookUp.{LookUp}
@@ -47,11 +48,11 @@ use Rattle.gix_odb_history.specs.Event.{Asked, CoreAnswer, CoreEvent, Event, OfC
 use Rattle.gix_odb_world.specs.Headline.{FailsAsListed, Law, Works, outcome_of, stand_of}
 use Rattle.gix_odb_world.specs.Machines.{fed_in}
 use Rattle.gix_odb_history.specs.Run.{Fails, FailedSince, Stand, did_of_asked, disk_after, told_now, tree_at}
-use Rattle.gix_odb_world.specs.Running.PackedStill.{LiesIndexed}
+use Rattle.gix_odb_world.specs.Running.PackedStill.{LiesPacked}
 use Rattle.gix_odb_world.specs.Status.{Working, status_of}
 use Rattle.gix_odb_world.specs.Told.{call_of, exchange_of, look_begun, told_since, view_then}
 use Rattle.gix_odb_world.proofs.HistoryLemmas.{cores_after-push}
-use Rattle.gix_odb_world.proofs.PackedStill.Contents.{lies_indexed}
+use Rattle.gix_odb_world.proofs.PackedStill.Contents.{lies_by_index, packed_at}
 use Rattle.gix_odb_world.proofs.RunSteps.Fronts.{event_or_end, length_take, none_beyond, take_next, take_suc, there_in_front}
 use Rattle.gix_odb_world.proofs.ToldLemmas.{asked-push, behind-push, told_none, told_turn}
 use Rattle.gix_odb_world.specs.RunLaws.Moved.{HadPublished, HasMoved}
@@ -312,10 +313,10 @@ module _ (first : Volume) (events : List Event) (is : IsKnownRun first events) (
       module _ (among : Contains (folder_list store.parts) folder) (name : Name) (named : is_index_name name ≡ true) (offset : ℕ)
           (packed : (now : ℕ) → moment ≤ now → now ≤ place + 1 → LiesAt store.parts query.want (tree_at first events now) folder id (InPackFile name offset)) where
         abbrev packed_place : PackedPlace
-        packed_place = record { folder = folder; name = name; named = named; offset = offset }
+        packed_place = packed_at folder ItsIndex name offset
 
-        lies : (now : ℕ) → moment ≤ now → now ≤ place + 1 → LiesIndexed (tree_at first events now) store.parts.object_hash id packed_place
-        lies now later up = lies_indexed store.parts query.want (tree_at first events now) store.parts.object_hash id at.fits.hashed packed_place (packed now later up)
+        lies : (now : ℕ) → moment ≤ now → now ≤ place + 1 → LiesPacked store.parts (tree_at first events now) id packed_place
+        lies now later up = lies_by_index store.parts query.want (tree_at first events now) id at.fits.hashed folder name offset (packed now later up)
 
         first_part : (rest : List Exchange) × (told_since (take (place + 1) events) handle begun ≡ before ++ rest)
         first_part = told_first_part events handle begun moment (place + 1) since to (let lt = at.within in omega (arith, lt))
@@ -332,16 +333,16 @@ module _ (first : Volume) (events : List Event) (is : IsKnownRun first events) (
         record Parts : Type 0 where
           rest : List Exchange
           all : told_since whole handle begun ≡ before ++ rest
-          fair : AreFair store.parts.object_hash id packed_place before rest
+          fair : AreFair (listed_for store.parts).multi store.parts.object_hash id packed_place before rest
 
         parts_by : (moment < place + 1) ⊎ (place + 1 ≤ moment) → Parts
         parts_by (inl earlier) =
             let until : place + 1 ≤ length events = (let lt = at.within in omega (arith, lt)) in
             let works : ¬ (FailedSince (take (place + 1) events) handle begun) = subst (λ (es : List Event). ¬ (FailedSince es handle begun)) (sym front) unfailed in
             let opened_early : store.opened ≤ begun = at.well.opened in
-            let holds = fair_to first events is handle begun store id packed_place among moment (place + 1) since opened_early until lies works closed place (omega (arith, earlier)) (omega arith) in
+            let holds = fair_to first events is handle begun store id packed_place named among moment (place + 1) since opened_early until lies works closed place (omega (arith, earlier)) (omega arith) in
             let on =
-            goes_on first events is handle begun store id packed_place among moment (place + 1) since opened_early until lies works place (omega (arith, earlier)) (omega arith) e
+            goes_on first events is handle begun store id packed_place named among moment (place + 1) since opened_early until lies works place (omega (arith, earlier)) (omega arith) e
             turn.there holds running turn.turns.status refl refl in
             record { rest = on.behind; all = on.told_is; fair = on.fair }
         parts_by (inr last) =
@@ -357,7 +358,7 @@ module _ (first : Volume) (events : List Event) (is : IsKnownRun first events) (
         not_missing : ⊥
         not_missing =
             let all_parts = parts_by (cases_lt moment (place + 1)) in
-            objects_that_move_into_packs_are_not_missed setting store.parts.object_hash query.want id at.fits.hashed packed_place among view before all_parts.rest
+            objects_that_move_into_packs_are_not_missed setting store.parts.object_hash query.want id at.fits.hashed packed_place named among view before all_parts.rest
             (subst (AreAsked setting start) all_parts.all ended.asked) published_before loose_before all_parts.fair
             (sym (ap (λ (es : List Exchange). result_of (behind setting start es)) all_parts.all) ∙ ended.misses)
 

@@ -18,7 +18,7 @@ use Rattle.gix_odb.specs.LookExchanges.{Exchange}
 use Rattle.gix_odb.specs.LookUpOrder.{Setting, ask_of}
 use Rattle.gix_odb.specs.Shown.{IsIndexPath}
 use Rattle.gix_odb.specs.Contents.{ShowsFile, sought}
-use Rattle.gix_odb.specs.Held.{WasShownAt}
+use Rattle.gix_odb.specs.Held.{WasShownWith}
 use Rattle.gix_odb.specs.JustRead.{GotLast, IsOfLastRead, IsPackPath, MissedLast, read_of}
 use Rattle.gix_odb.proofs.ReadLaws.{index_that_was_read_is_stored_next, pack_that_was_read_is_stored_next, what_is_stored_or_passed_over_was_just_read}
 use Rattle.gix_odb_world.specs.AtWork.{Running, setting_in}
@@ -61,8 +61,8 @@ module _ (first : Volume) (events : List Event) (is : IsKnownRun first events) w
     abbrev setting : Setting
     setting = setting_in running.store
 
-    abbrev Shown : Path → List ℕ → Type 0
-    Shown path bytes = WasShownAt (tree_at first past) running.store.opened (length past) path bytes
+    abbrev Shown : Path → ℕ → List ℕ → Type 0
+    Shown path time bytes = WasShownWith (tree_at first past) running.store.opened (length past) path time bytes
 
     at : IsLookTurn first events place e handle running query
     at = look_turn first events is place e handle running query turn

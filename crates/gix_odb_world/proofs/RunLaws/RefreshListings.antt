@@ -13,6 +13,8 @@ use Rattle.gix_odb_events.specs.declared.event.Effect.TheVariants as effects
 use Rattle.gix_odb_events.specs.declared.event.Event.TheVariants as events_of
 use Rattle.gix_odb_events.specs.declared.view.View.{View}
 use Rattle.gix_odb_search.specs.ListOrder as lists
+use Rattle.gix_odb_search.specs.ListedStore.{ListedStore}
+use Rattle.gix_odb_search.specs.MultiPack.{unnamed}
 use Rattle.gix_odb_search.specs.LongestFirst.{longest_first}
 use Rattle.gix_odb_events.specs.declared.answer.Answer.{Answer}
 use Rattle.gix_odb_events.specs.declared.answer.Answer.TheVariants as told
@@ -24,7 +26,7 @@ use Rattle.gix_odb.specs.LookExchanges.{Exchange, WasTold}
 use Rattle.gix_odb.specs.LookUpOrder.{Setting}
 use Rattle.gix_odb.specs.Shown.{folders_of}
 use Rattle.gix_odb.proofs.ListerLaws.Lists.{has_first, has_later}
-use Rattle.gix_odb.specs.ListedFiles.{AreOfTree, IsToldOfTree, listed_in}
+use Rattle.gix_odb.specs.ListedFiles.{AreOfTree, IsToldOfTree, all_rows, listed_in}
 use Rattle.gix_odb.specs.ListerCalls.{IsRowSeen}
 use Rattle.gix_odb.proofs.ListingLaws.OfTree.{ListsStage, ListsStep, listing_lists, starts_listing}
 use Rattle.gix_odb.proofs.ListingLaws.Seen.{SeesLister, SeesStep, listing_sees, starts_seeing}
@@ -33,6 +35,7 @@ use Rattle.gix_odb.specs.Refreshed.{AreAsked, behind}
 use Rattle.gix_odb.specs.declared.refresh.RefreshStep.{RefreshStep}
 use Rattle.gix_odb.specs.declared.refresh.RefreshStep.TheVariants as ends
 use Rattle.gix_odb.specs.declared.refresh.Refresh.TheVariants as stages
+use Rattle.gix_odb.specs.Store.{listed_for}
 
 same_part : (one other : Ask) → ◌≡◌ {A = Option Ask} (Some one) (Some other) → one ≡ other
 same_part one other is = same_Some one other is
@@ -42,8 +45,11 @@ published : (P : List ListingRow → Type 0) (own listing : Listing) → P own.r
 published P own listing here is = let same : own ≡ listing = cc is in subst (λ (l : Listing). P l.rows) same here
 
 module _ (setting : Setting) where
+  abbrev store : ListedStore
+  store = listed_for setting.parts
+
   abbrev fed_by : RefreshStep → Answer → RefreshStep
-  fed_by step answer = step_fed setting.parts.objects setting.parts.folders step answer
+  fed_by step answer = step_fed setting.parts.objects store step answer
 
   -- ---- what was seen
 
@@ -55,18 +61,19 @@ module _ (setting : Setting) where
     AreSeen rows = All (IsRowSeen Told) rows
 
     abbrev Sees : RefreshStep → Type 0
-    Sees (ends.More (stages.Listing lister)) = SeesLister Told setting.parts.folders lister
+    Sees (ends.More (stages.Listing lister)) = SeesLister Told store lister
     Sees (ends.More (stages.Publishing listing)) = AreSeen listing.rows
     Sees step = Unit {0}
 
-    listed_seen : (step : ListStep) → SeesStep Told setting.parts.folders step → Sees (by_listed step)
+    listed_seen : (step : ListStep) → SeesStep Told store step → Sees (by_listed step)
     listed_seen (steps.More lister) here = here
     listed_seen (steps.Listed listing) here = here
     listed_seen steps.Broken here = tt
+    listed_seen (steps.TooManyPacks actual path) here = tt
 
     view_seen : (view : View) (b : Bool) → Sees (cond b (ends.Read view) (ends.More (listing_from setting.parts.objects view.list_no)))
     view_seen view true = tt
-    view_seen view false = starts_seeing Told setting.parts.folders setting.parts.objects view.list_no
+    view_seen view false = starts_seeing Told store setting.parts.objects view.list_no
 
     look_seen : (view : Option View) → Sees (by_look setting.parts.objects view)
     look_seen None = tt
@@ -80,8 +87,8 @@ module _ (setting : Setting) where
 
     fed_seen : (step : RefreshStep) → Sees step → (ask : Ask) (answer : Answer) → asked_of step ≡ Some ask → WasTold all ask answer → Sees (fed_by step answer)
     fed_seen (ends.More (stages.Listing lister)) here ask (told.Disk answer) is was =
-        listed_seen (lists.fed setting.parts.folders lister answer)
-        (listing_sees Told setting.parts.folders lister.head here.rows lister.stage here.stage answer
+        listed_seen (lists.fed store lister answer)
+        (listing_sees Told store lister.head here.rows lister.stage here.stage answer
         (subst (λ (a : Ask). WasTold all a (told.Disk answer)) (sym (same_part (parts.Disk (lists.ask_of lister)) ask is)) was))
     fed_seen (ends.More (stages.Listing lister)) here ask (told.Core answer) is was = here
     fed_seen (ends.More stages.Reading) here ask (told.Disk answer) is was = tt
@@ -120,24 +127,25 @@ module _ (setting : Setting) where
 
   module _ (tree : Tree) where
     abbrev total : List ListingRow
-    total = listed_in tree (folders_of setting)
+    total = all_rows tree store.multi (folders_of setting)
 
     abbrev AreAll : List ListingRow → Type 0
-    AreAll rows = rows ≡ longest_first total
+    AreAll rows = rows ≡ longest_first (unnamed total)
 
     abbrev Lists : List Entry → RefreshStep → Type 0
-    Lists coming (ends.More (stages.Listing lister)) = ListsStage tree setting.parts.folders total coming lister.head lister.stage
+    Lists coming (ends.More (stages.Listing lister)) = ListsStage tree store total coming lister.head lister.stage
     Lists coming (ends.More (stages.Publishing listing)) = AreAll listing.rows
     Lists coming step = Unit {0}
 
-    listed_so : (coming : List Entry) (step : ListStep) → ListsStep tree setting.parts.folders total coming step → Lists coming (by_listed step)
+    listed_so : (coming : List Entry) (step : ListStep) → ListsStep tree store total coming step → Lists coming (by_listed step)
     listed_so coming (steps.More lister) here = here
     listed_so coming (steps.Listed listing) here = here
     listed_so coming steps.Broken here = tt
+    listed_so coming (steps.TooManyPacks actual path) here = tt
 
     view_listed : (coming : List Entry) (view : View) (b : Bool) → Lists coming (cond b (ends.Read view) (ends.More (listing_from setting.parts.objects view.list_no)))
     view_listed coming view true = tt
-    view_listed coming view false = starts_listing tree setting.parts.folders setting.parts.objects view.list_no coming
+    view_listed coming view false = starts_listing tree store setting.parts.objects view.list_no coming
 
     look_listed : (coming : List Entry) (view : Option View) → Lists coming (by_look setting.parts.objects view)
     look_listed coming None = tt
@@ -152,8 +160,8 @@ module _ (setting : Setting) where
     fed_listed : (coming : List Entry) (step : RefreshStep) → Lists coming step → (ask : Ask) (answer : Answer) (left : List Entry) → asked_of step ≡ Some ask
         → IsToldOfTree tree coming ask answer left → Lists left (fed_by step answer)
     fed_listed coming (ends.More (stages.Listing lister)) here ask (told.Disk answer) left is of =
-        listed_so left (lists.fed setting.parts.folders lister answer)
-        (listing_lists tree setting.parts.folders total lister.head coming lister.stage here answer left
+        listed_so left (lists.fed store lister answer)
+        (listing_lists tree store total lister.head coming lister.stage here answer left
         (subst (λ (a : Ask). IsToldOfTree tree coming a (told.Disk answer) left) (sym (same_part (parts.Disk (lists.ask_of lister)) ask is)) of))
     fed_listed coming (ends.More (stages.Listing lister)) here ask (told.Core answer) left is of =
         absurd (subst (λ (a : Ask). IsToldOfTree tree coming a (told.Core answer) left) (sym (same_part (parts.Disk (lists.ask_of lister)) ask is)) of)
@@ -192,14 +200,15 @@ module _ (setting : Setting) where
 
   module _ (snapshot : View) (exchanges : List Exchange) (asked : AreAsked setting (started snapshot) exchanges) (listing : Listing)
       (is : asked_of (behind setting (started snapshot) exchanges) ≡ Some (parts.Core (events_of.Publish listing))) where
-    -- Each row's index was itself a file in one of the exchanges, and its pack's path showed a file in one.
+    -- Each row's index was itself a file in one of the exchanges, and its pack's path showed a file in one; or it is that of a multi-pack index, which
+    -- was read in one, with the row's content and time.
     pub rows_of_a_refresh_were_seen : All (IsRowSeen (λ ask answer. WasTold exchanges (parts.Disk ask) (told.Disk answer))) listing.rows
     rows_of_a_refresh_were_seen =
         handed_seen exchanges (behind setting (started snapshot) exchanges)
         (seen_behind exchanges (started snapshot) (start_seen exchanges snapshot snapshot.read) exchanges asked (λ exchange among. among)) listing is
 
     -- Where one tree answered all calls of the disk, the rows are the tree's listed files, in the order in which they are tried.
-    pub rows_of_a_refresh_are_those_of_the_tree : (tree : Tree) → AreOfTree tree [] exchanges → listing.rows ≡ longest_first (listed_in tree (folders_of setting))
+    pub rows_of_a_refresh_are_those_of_the_tree : (tree : Tree) → AreOfTree tree [] exchanges → listing.rows ≡ longest_first (listed_in tree (listed_for setting.parts).multi (folders_of setting))
     rows_of_a_refresh_are_those_of_the_tree tree of =
         let lists_so = listed_behind tree [] (started snapshot) (start_listed tree snapshot snapshot.read) exchanges asked of in
         handed_listed tree lists_so.0 (behind setting (started snapshot) exchanges) lists_so.1 listing is

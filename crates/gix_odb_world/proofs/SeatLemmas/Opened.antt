@@ -1,5 +1,5 @@
 -- How an opening continues, and how it ends.
-use Rattle.std.proofs.Common.{◌≡◌, ℕ, Bool, true, false, List, length, Option, Ok, Err, Result, refl, sym, ap, subst}
+use Rattle.std.proofs.Common.{◌≡◌, ℕ, Bool, true, false, length, Option, Ok, Err, Result, refl, sym, ap, subst}
 use Rattle.std.specs.Prelude.{if◌then◌else◌, nat_le}
 use Rattle.odb_base.specs.Path.{Path}
 use Rattle.odb_disk.specs.declared.ask.DiskAnswer.{DiskAnswer}
@@ -10,6 +10,8 @@ use Rattle.odb_disk.specs.declared.meta.Kind.TheVariants as kinds
 use Rattle.gix_odb.specs.OpenOrder.{begun, fed, listed_on, looked, numbered, refused, result_of, shown, slots_for}
 use Rattle.gix_odb_events.specs.PackId.{most_slots}
 use Rattle.gix_odb_search.specs.ListOrder as lists
+use Rattle.gix_odb_search.specs.ListedStore.{ListedStore}
+use Rattle.gix_odb_search.specs.MultiPack.{most_packs}
 use Rattle.gix_odb_search.specs.declared.lister.ListStep.{ListStep}
 use Rattle.gix_odb_search.specs.declared.lister.ListStep.TheVariants as listed
 use Rattle.gix_odb_calls.specs.declared.call.CallError.TheVariants as call_errors
@@ -110,11 +112,13 @@ module _ (reply : Reply) where
   by_listing percent minimum (listed.More lister) is = absurd (cc is)
   by_listing percent minimum (listed.Listed listing) is = by_number (slots_for percent minimum (length listing.rows)) is
   by_listing percent minimum listed.Broken is = by_error (opening_errors.LoadIndex load_errors.Io) is
+  by_listing percent minimum (listed.TooManyPacks actual path) is =
+      by_error (opening_errors.LoadIndex (load_errors.TooManyPacksInMultiIndex actual most_packs path)) is
 
-pub answered_refuses : (objects : Path) (folders : List Path) (slots : Slots) (state : OpenStage) (answer : DiskAnswer) (reply : Reply) → IsOn state
-    → fed objects folders slots state (told.Disk answer) ≡ opens.Done reply → refuses_opening reply ≡ true
-answered_refuses objects folders slots opens.Looking answer reply on is = by_look reply objects slots answer is
-answered_refuses objects folders slots (opens.Listing lister percent minimum) answer reply on is =
-    by_listing reply percent minimum (lists.fed folders lister answer) is
-answered_refuses objects folders slots (opens.Registering number) answer reply on is = absurd (cc is)
-answered_refuses objects folders slots (opens.Done own) answer reply on is = absurd on
+pub answered_refuses : (objects : Path) (listed_by : ListedStore) (slots : Slots) (state : OpenStage) (answer : DiskAnswer) (reply : Reply) → IsOn state
+    → fed objects listed_by slots state (told.Disk answer) ≡ opens.Done reply → refuses_opening reply ≡ true
+answered_refuses objects listed_by slots opens.Looking answer reply on is = by_look reply objects slots answer is
+answered_refuses objects listed_by slots (opens.Listing lister percent minimum) answer reply on is =
+    by_listing reply percent minimum (lists.fed listed_by lister answer) is
+answered_refuses objects listed_by slots (opens.Registering number) answer reply on is = absurd (cc is)
+answered_refuses objects listed_by slots (opens.Done own) answer reply on is = absurd on

@@ -14,16 +14,16 @@ use Rattle.gix_odb.specs.Shown.{IsHanded}
 use Rattle.gix_odb_world.proofs.CoreLaws.Journals.{each_of_grown, legal_journal_grows}
 use Rattle.gix_odb_world.proofs.CoreLaws.Wider.{IsHanded-wider}
 use Rattle.gix_odb.specs.Contents.{folder_list}
-use Rattle.gix_odb.specs.Held.{WasShownAt}
+use Rattle.gix_odb.specs.Held.{WasShownWith}
 use Rattle.gix_odb_world.specs.AtWork.{Store, setting_in}
 use Rattle.gix_odb_history.specs.Cores.{answer_behind, cores_after, entered, entry_of}
 use Rattle.gix_odb_history.specs.Event.{CoreAnswer, CoreEvent, Event}
 use Rattle.gix_odb_history.specs.Run.{tree_at}
 use Rattle.gix_odb_world.proofs.HistoryLemmas.{tree_at-before}
 
--- a file with these bytes was shown at a path since a store was opened
-abbrev pub ShownSince : Volume → List Event → Store → Path → List ℕ → Type 0
-ShownSince first events store path bytes = WasShownAt (tree_at first events) store.opened (length events) path bytes
+-- a file with these bytes and this time was shown at a path since a store was opened
+abbrev pub ShownSince : Volume → List Event → Store → Path → (time : ℕ) → List ℕ → Type 0
+ShownSince first events store path time bytes = WasShownWith (tree_at first events) store.opened (length events) path time bytes
 
 -- the history of a core of a store, which was made with so many slots
 pub record IsOfStore (first : Volume) (events : List Event) (store : Store) (history : History) : Type 0 where
@@ -44,15 +44,15 @@ module _ (first : Volume) (events : List Event) (e : Event) (store : Store) wher
   whole = events ++ e ∷ []
 
   -- what was shown before an event was shown before and with it
-  pub shown_later : (path : Path) (bytes : List ℕ) → ShownSince first events store path bytes → ShownSince first whole store path bytes
-  shown_later path bytes was =
+  pub shown_later : (path : Path) (time : ℕ) (bytes : List ℕ) → ShownSince first events store path time bytes → ShownSince first whole store path time bytes
+  shown_later path time bytes was =
       let longer = length_push events e in
       let to = was.to in
       record {
         moment = was.moment;
         from = was.from;
         to = omega (arith, to, longer);
-        was = subst (λ tree. (time : ℕ) × (read_of tree path ≡ Ok (bytes, time))) (sym (tree_at-before first events e was.moment was.to)) was.was;
+        was = subst (λ tree. read_of tree path ≡ Ok (bytes, time)) (sym (tree_at-before first events e was.moment was.to)) was.was;
       }
 
   -- it still holds

@@ -80,10 +80,11 @@ module _ (first : Volume) (events : List Event) (store : Store) (history : Histo
         subst (λ before. IsNext history.opening before entry) (front past (entry ∷ []))
         (legal_here (length past) entry (seam past entry []))
 
+    possible_here : IsPossible history.opening to_here
+    possible_here = (possible_journal_splits to_here later history.opening (subst (IsPossible history.opening) split of.possible)).0
+
     shape_here : IsShape (replay history.opening to_here)
-    shape_here =
-        journal_comes_to_a_shape history.opening is_opened to_here
-        (possible_journal_splits to_here later history.opening (subst (IsPossible history.opening) split of.possible)).0
+    shape_here = journal_comes_to_a_shape history.opening is_opened to_here possible_here
 
     pub shows_here : (view : View) → view ≡ view_of (replay history.opening to_here) (number_behind past) → Shows view
     shows_here view is =
@@ -93,7 +94,7 @@ module _ (first : Volume) (events : List Event) (store : Store) (history : Histo
         subst Shows (sym is) (
           what_a_core_shows_was_shown (ShownSince first events store) (setting_in store) store.parts.object_hash to_here
               (λ one among. of.handed one (subst (λ es. Contains es one) (sym split) (Contains-append_left to_here later one among)))
-              history.opening is_opened legal_here (number_behind past),
+              history.opening is_opened legal_here possible_here (number_behind past),
           grind (arith, few, same, many),
         )
 

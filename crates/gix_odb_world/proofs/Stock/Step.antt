@@ -49,6 +49,7 @@ use Rattle.gix_odb_world.proofs.HistoryLemmas.{slice_get-last, status_of-push}
 use Rattle.gix_odb_world.proofs.SeatLemmas.{seats_now}
 use Rattle.gix_odb_world.proofs.SeatLemmas.Applied.{is_free_for_clone}
 use Rattle.gix_odb_world.proofs.SeatLemmas.Opened.{left_of}
+use Rattle.gix_odb_world.proofs.ReadsShown.{reads_were_shown}
 use Rattle.gix_odb_world.proofs.RunSteps.{at_work, turn_step}
 use Rattle.gix_odb_world.proofs.Stock.OneCore.{ShownSince}
 use Rattle.gix_odb_world.proofs.Stock.Owned.{AreStocked, Owns, OwnsAt}
@@ -200,7 +201,8 @@ module _ (first : Volume) (past : List Event) (e : Event) (lawful : IsLawful fir
           let setting = setting_in running.store in
           let snapshot = view_then past number running.modes.core running.begun in
           let exchanges = told_since past number running.begun in (
-            what_a_refresh_hands_on_is_of_the_folders setting snapshot exchanges knows.asked (ShownSince first past running.store) running.store.parts.object_hash event asked,
+            what_a_refresh_hands_on_is_of_the_folders setting snapshot exchanges knows.asked (ShownSince first past running.store) running.store.parts.object_hash
+                (reads_were_shown first past lawful number running.begun running.store.opened knows.opened) event asked,
             what_a_refresh_hands_on_can_happen setting snapshot exchanges knows.asked knows.distinct event asked (present (history_at cores running.modes.core)) number,
           )
       handed_by (Calling (Writing call)) is knows = absurd (no_event (disk_ask_of call) is)

@@ -1,11 +1,13 @@
 -- Along a run the streams of handles at work are open, and no two handles read one.
-use Rattle.std.proofs.Common.{◌≡◌, ◌≢◌, ◌⊎◌, ℕ, true, false, List, Contains, Option, Some, None, inl, inr, sym, ◌∙◌, ap}
+use Rattle.std.proofs.Common.{◌≡◌, ◌≢◌, ◌⊎◌, ℕ, true, false, List, Contains, Option, Some, None, inl, inr, sym, ◌∙◌, ap, subst}
 use Rattle.odb_base.specs.Path.{Path}
 use Rattle.odb_disk.specs.MemDisk.{Volume}
 use Rattle.odb_disk.specs.StreamAsks.{is_of_streams}
 use Rattle.odb_disk.specs.declared.ask.DiskAsk.{DiskAsk}
 use Rattle.odb_disk.specs.declared.ask.DiskAsk.TheVariants as asks
-use Rattle.gix_odb_loose.specs.LooseOrder.{disk_ask_of}
+use Rattle.gix_odb_loose.specs.LooseOrder.{IsStreamless, disk_ask_of}
+use Rattle.gix_odb_loose.specs.declared.call.LooseCall.{LooseCall}
+use Rattle.gix_odb_loose.specs.declared.write_order.WriteStage.{WriteStage}
 use Rattle.gix_odb_loose.proofs.StillAskLaws.{call_asks_still}
 use Rattle.gix_odb_search.specs.ListOrder as lists
 use Rattle.gix_odb_search.specs.PackFolder.{pack_folder}
@@ -27,9 +29,11 @@ use Rattle.gix_odb_world.specs.Work.{Work}
 use Rattle.gix_odb_world.specs.Work.{Opening, Calling}
 use Rattle.gix_odb_world.specs.AtWork.{Running, setting_in}
 use Rattle.gix_odb_history.specs.Event.{Event}
+use Rattle.gix_odb_history.specs.Writing.{ToWrite}
 use Rattle.gix_odb.specs.CallOrder.{loose_ask}
 use Rattle.gix_odb_world.specs.Machines.{ask_in}
 use Rattle.gix_odb_world.specs.Running.{Knows}
+use Rattle.gix_odb_world.specs.Running.Write.{write_at}
 use Rattle.gix_odb_world.specs.Status.{Working, status_of}
 use Rattle.gix_odb_world.specs.Told.{look_now, opening_now, refresh_now, told_since, view_then}
 use Rattle.gix_odb_world.proofs.Stock.OneCore.{ShownSince}
@@ -79,6 +83,10 @@ on_stream asked (asks.Append path bytes) is dir never = absurd never
 on_stream asked (asks.Rename from to) is dir never = absurd never
 on_stream asked (asks.Remove path) is dir never = absurd never
 
+-- a write reads no directory
+streamless : (call : LooseCall) (write : ToWrite) (stage : WriteStage) → call ≡ write_at write stage → IsStreamless call.stage
+streamless call write stage is = subst (λ (c : LooseCall). IsStreamless c.stage) (sym is) tt
+
 pub asks_own : (first : Volume) (events : List Event) (handle : ℕ) (running : Running) (work : Work) → Knows first events handle running work → (ask : DiskAsk)
     → ask_in running.store work ≡ Some (parts.Disk ask) → AsksOwn events handle running ask
 asks_own first events handle running (Opening opens.Looking) knows ask is =
@@ -114,7 +122,8 @@ asks_own first events handle running (Calling (Refreshing refresh call)) knows a
           (own.stream, own.told, own.number);
     }
 asks_own first events handle running (Calling (Writing call)) knows ask is =
-    still_asks events handle running ask (call_asks_still call ask (call_of_disk (disk_ask_of call) ask is))
+    still_asks events handle running ask
+    (call_asks_still call ask (streamless call knows.writing.write knows.writing.stage knows.writing.is) (call_of_disk (disk_ask_of call) ask is))
 asks_own first events handle running (Calling (Looking look)) knows ask is =
     let asked : looks.ask_of (look_now events handle running.store running.modes running.begun knows.query) ≡ Some (parts.Disk ask) =
     ap looks.ask_of (sym knows.is) ∙ is in

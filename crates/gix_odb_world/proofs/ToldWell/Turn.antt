@@ -1,5 +1,5 @@
 -- The answers to the handle of a query stay true of the run after its own turn: an event of the core of its store, or a call of the disk.
-use Rattle.std.proofs.Common.{◌≡◌, ◌⊎◌, ℕ, ◌+◌, ◌<◌, ◌≤◌, List, [], ◌∷◌, ◌++◌, length, Contains, Some, None, Ok, inl, inr, refl, sym, ◌∙◌, ap, subst, arith}
+use Rattle.std.proofs.Common.{◌≡◌, ◌⊎◌, ℕ, ◌<◌, ◌≤◌, List, [], ◌∷◌, ◌++◌, length, Contains, Option, Some, None, Ok, inl, inr, refl, sym, ◌∙◌, ap, subst, arith}
 use Rattle.std.specs.Prelude.{unwrap_or}
 use Rattle.std.proofs.lemmas.List.{length_push}
 use Rattle.std.proofs.Math.Seq.{take-length}
@@ -19,18 +19,22 @@ use Rattle.gix_odb_core.specs.declared.journal.Entry.{Entry}
 use Rattle.gix_odb_core.specs.declared.shape.Shape.{Shape}
 use Rattle.gix_odb_events.specs.declared.view.View.{View}
 use Rattle.gix_hash.specs.declared.object_id.ObjectId.{ObjectId}
+use Rattle.odb_base.specs.Path.{Path}
+use Rattle.gix_odb_search.specs.declared.multi_pack.MultiUse.{MultiUse}
 use Rattle.gix_odb_events.specs.declared.answer.Answer.TheVariants as told
 use Rattle.gix_odb_events.specs.declared.answer.Ask.TheVariants as parts
 use Rattle.gix_odb.specs.LookExchanges.{AreAnswered, Exchange, HasFailed, IsAnswerTo, WasTold}
-use Rattle.gix_odb.specs.Fair.{AreFair, IsFair, PackedPlace}
+use Rattle.gix_odb.specs.Fair.{AreFair, IsFair, PackedPlace, index_at}
 use Rattle.gix_odb.specs.Laps as streams
 use Rattle.gix_odb.specs.Laps.{AreNumbered, AreWithin, IsNumbered, number_by}
 use Rattle.gix_odb.specs.LookUpOrder.{Setting, ask_of}
 use Rattle.gix_odb.specs.Shown.{IsHanded, IsShownView}
+use Rattle.gix_odb.specs.Store.{listed_for}
 use Rattle.gix_odb.specs.Stream.{stream_by, stream_in}
 use Rattle.gix_odb.specs.True.{IsTrue}
 use Rattle.gix_odb.specs.declared.look_up.LookUp.{LookUp}
 use Rattle.gix_odb_world.proofs.CoreLaws.{core_answers_are_fair, core_answers_are_numbered, core_answers_are_true, core_answers_suit_their_events, core_answers_tell_no_later_number}
+use Rattle.gix_odb_world.proofs.CoreLaws.MultiRows.{MultisHaveOne}
 use Rattle.gix_odb_world.proofs.CoreLaws.Wider.{AreTrue-wider, IsHanded-wider, IsShownView-wider}
 use Rattle.gix_odb.proofs.FoundLaws.{what_is_handed_was_shown}
 use Rattle.gix_odb.proofs.HandedLaws.{IsOwnStream, streams_of_look_ups_are_their_own}
@@ -50,7 +54,9 @@ use Rattle.gix_odb_world.proofs.HistoryLemmas.{cores_after-push, failed-kept, fa
 use Rattle.gix_odb_world.proofs.MachineLaws.{IsRunning, IsTurnAsking}
 use Rattle.gix_odb_world.proofs.PackedStill.{AreFair-push, told_fairly}
 use Rattle.gix_odb_world.proofs.PackedStill.Moments.{shown_index_is_sound, still_before}
+use Rattle.gix_odb_world.proofs.PackedStill.Rule.{multis_show_one}
 use Rattle.gix_odb_world.proofs.QuietTurn.{failed_now}
+use Rattle.gix_odb_world.proofs.ReadsShown.{shown_at}
 use Rattle.gix_odb_world.proofs.SeatLemmas.{seats_now}
 use Rattle.gix_odb_world.proofs.SeatLemmas.Elsewhere.{slice_get-set_same}
 use Rattle.gix_odb_world.proofs.Stock.{HasStock, HasStockAt, stocked}
@@ -86,6 +92,9 @@ module _ (first : Volume) (events : List Event) (e : Event) where
     abbrev setting : Setting
     setting = setting_in store
 
+    abbrev multi : Option MultiUse
+    multi = (listed_for store.parts).multi
+
     abbrev core : ℕ
     core = running.modes.core
 
@@ -112,7 +121,7 @@ module _ (first : Volume) (events : List Event) (e : Event) where
       given : (ask : DiskAsk) (answer : DiskAnswer) → record { ask = parts.Disk ask; answer = told.Disk answer } ≡ exchange → IsGiven first whole handle begun ask answer
       fails : FailedSince whole handle begun → FailedSince events handle begun ⊎ (exchange.answer ≡ told.Disk (answers.Refused errors.Failed))
       fair : (id : ObjectId) (place : PackedPlace) → ¬ (FailedSince whole handle begun)
-          → IsPackedStill (tree_at first whole) store begun (length whole) id place → IsFair store.parts.object_hash id place before exchange.ask exchange.answer
+          → IsPackedStill (tree_at first whole) store begun (length whole) id place → IsFair multi store.parts.object_hash id place before exchange.ask exchange.answer
 
     told_more : (exchange : Exchange) → told_since whole handle begun ≡ before ++ exchange ∷ [] → (core < length (cores_after whole)) → IsToldTruly exchange
         → IsToldWell first whole handle store running.modes begun
@@ -148,8 +157,8 @@ module _ (first : Volume) (events : List Event) (e : Event) where
             | inr last ↦ record { exchange = exchange; among = last_among before exchange; failed = last }
           ]);
       fair = λ id place works still.
-          subst (AreFair store.parts.object_hash id place []) (sym same)
-          (AreFair-push store.parts.object_hash id place [] before exchange
+          subst (AreFair multi store.parts.object_hash id place []) (sym same)
+          (AreFair-push multi store.parts.object_hash id place [] before exchange
           (well.fair id place (λ failed. works (failed-kept events e handle begun failed)) (still_before first events e store begun id place still))
           (truly.fair id place works still));
     }
@@ -218,11 +227,17 @@ module _ (first : Volume) (events : List Event) (e : Event) where
       handed_now =
           IsHanded-wider (ShownSince first events store) (ShownSince first whole store) (shown_later first events e store) setting store.parts.object_hash event handed
 
+      -- each multi-pack index has shown one content at one time
+      rule : MultisHaveOne (ShownSince first events store) setting
+      rule path at time one other was further =
+          multis_show_one first events handle running ran at.folder at.among time one other
+          (subst (λ (p : Path). ShownSince first events store p time one) at.is was) (subst (λ (p : Path). ShownSince first events store p time other) at.is further)
+
       truly : IsToldTruly exchange
       truly = record {
         truth =
             core_answers_are_true history.opening history.entries handle event answer answer_is (is_opened first events store history stock.of) stock.of.legal
-            (ShownSince first whole store) setting store.parts.object_hash later handed_now;
+            stock.of.possible can (ShownSince first whole store) setting store.parts.object_hash later handed_now;
         fitting = core_answers_suit_their_events history.opening history.entries handle event answer answer_is;
         numbered =
             core_answers_are_numbered history.opening history.entries handle event answer answer_is (number_after 0 before) low
@@ -236,9 +251,10 @@ module _ (first : Volume) (events : List Event) (e : Event) where
         fails = λ failed. inl (failed_before events e handle begun (λ turn_it fails. no_failure e.entry.did turn.did fails) failed);
         fair = λ id place works still.
             core_answers_are_fair history.opening history.entries handle event answer answer_is (is_opened first events store history stock.of) stock.of.legal
-            (ShownSince first whole store) setting store.parts.object_hash later handed_now id place
-            (shown_index_is_sound (tree_at first whole) store begun (length whole) id place still well.opened
-            (let since = knows.since in let more = length_push events e in omega (arith, since, more)))
+            stock.of.possible can (ShownSince first events store) setting store.parts.object_hash stock.of.handed handed rule id place still.carried
+            (λ by_index bytes was.
+            shown_index_is_sound (tree_at first events) store begun (length events) id place (still_before first events e store begun id place still) well.opened
+            knows.since by_index bytes (shown_at (tree_at first events) store.opened (length events) (index_at place) bytes was))
             before;
       }
 
@@ -283,7 +299,7 @@ module _ (first : Volume) (events : List Event) (e : Event) where
               moment = length events;
               from = let a = well.opened in let b = knows.since in omega (arith, a, b);
               to = let c = length_push events e in omega (arith, c);
-              was = (time, subst (λ tree. read_of tree path ≡ Ok (bytes, time)) (sym tree_is) read);
+              was = subst (λ tree. read_of tree path ≡ Ok (bytes, time)) (sym tree_is) read;
             })
             ask (suits disk ask (λ dir is. next_entry_suits first events e handle running ran dir (own_stream dir is)));
         fitting = tt;

@@ -72,6 +72,9 @@ module _ (first : Volume) (events : List Event) (e : Event) (handle : ℕ) (stor
     since : number ≤ length whole
     since = let longer = length_push events e in omega (arith, longer)
 
+    early : store.opened ≤ number
+    early = let longer = length_push events e in let before = start.opened in omega (arith, longer, before)
+
     -- the refresh before it begins from the snapshot that its handle has
     begins : refresh_begun whole handle modes number ≡ started (view_in_modes modes)
     begins = ap started (sym (snapshot_seen events e handle modes start.seated))
@@ -88,6 +91,7 @@ module _ (first : Volume) (events : List Event) (e : Event) (handle : ℕ) (stor
       write = w;
       of = record { into = refl; hashed = refl; fits = start.sized; task = refl };
       is = refl;
+      opened = early;
       since = since;
       distinct = start.distinct;
       refresh_is = sym (now_is ∙ unread);

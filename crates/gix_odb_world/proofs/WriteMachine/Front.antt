@@ -54,6 +54,7 @@ use Rattle.gix_odb_world.proofs.RefusedLemmas.{never_for_memory, refused_on_core
 use Rattle.gix_odb_history.proofs.WriteAsk.Quiet.{change_by-quiet}
 use Rattle.gix_odb_world.proofs.WriteGoes.{more_laps}
 use Rattle.gix_odb_world.proofs.WriteKept.{stands_at_first, unchanged_push}
+use Rattle.gix_odb.specs.Store.{listed_for}
 
 -- a lap has room for it, and the bound has more than a lap
 within_bound : (turns lap laps pieces : ℕ) → turns ≤ lap → lap ≤ laps → turns < laps + (turns_beside_pieces + pieces)
@@ -121,7 +122,7 @@ module _ (first : Volume) (events : List Event) (handle : ℕ) (running : Runnin
         (well : IsAnsweredWell first whole handle store running.begun) (refused : AreRefused whole handle running.modes.core running.begun)
         (nothing : IsTurnOf handle e → e.entry.change ≡ None) where
       abbrev next : RefreshStep
-      next = refreshes.fed store.parts.objects store.parts.folders refresh exchange.answer
+      next = refreshes.fed store.parts.objects (listed_for store.parts) refresh exchange.answer
 
       abbrev begun_now : RefreshStep
       begun_now = refresh_begun whole handle running.modes running.begun
@@ -134,14 +135,14 @@ module _ (first : Volume) (events : List Event) (handle : ℕ) (running : Runnin
 
       stands : next ≡ refresh_now whole handle store running.modes running.begun
       stands =
-          ap (λ r. refreshes.step_fed store.parts.objects store.parts.folders r exchange.answer) knows.refresh_is
+          ap (λ r. refreshes.step_fed store.parts.objects (listed_for store.parts) r exchange.answer) knows.refresh_is
           ∙ sym (now_more events e handle store running.modes running.begun knows.since exchange told_is)
 
       all_asked : AreAsked setting begun_now all
       all_asked =
           subst (λ r. AreAsked setting r all) (sym begins)
           (subst (AreAsked setting begun_at) (sym told_is)
-          (asked-push refreshes.asked_of (refreshes.step_fed store.parts.objects store.parts.folders) begun_at exchanges exchange knows.asked (asks_now exchange.ask asked_it)))
+          (asked-push refreshes.asked_of (refreshes.step_fed store.parts.objects (listed_for store.parts)) begun_at exchanges exchange knows.asked (asks_now exchange.ask asked_it)))
 
       longer : length all ≡ running.turns + 1
       longer = let had = knows.turns in let more = length_push exchanges exchange in ap length told_is ∙ omega (arith, had, more)
@@ -180,6 +181,7 @@ module _ (first : Volume) (events : List Event) (handle : ℕ) (running : Runnin
             write = knows.write;
             of = record { into = knows.of.into; hashed = knows.of.hashed; fits = knows.of.fits; task = knows.of.task };
             is = knows.is;
+            opened = knows.opened;
             since = since;
             distinct = knows.distinct;
             refresh_is =
@@ -231,6 +233,7 @@ module _ (first : Volume) (events : List Event) (handle : ℕ) (running : Runnin
         caused load_errors.Io cause = cause
         caused (load_errors.InsufficientSlots current needed) cause =
             since_told whole handle running.modes.core running.begun refused (refusals.InsufficientSlots current needed) cause
+        caused (load_errors.TooManyPacksInMultiIndex actual limit path) cause = cause
         caused load_errors.GenerationOverflow cause = since_told whole handle running.modes.core running.begun refused refusals.GenerationOverflow cause
         caused (load_errors.Unsettled first_no own last) cause = cause
         caused load_errors.NoMemory cause = never_for_memory whole handle running.modes.core running.begun refused cause
@@ -266,7 +269,7 @@ module _ (first : Volume) (events : List Event) (handle : ℕ) (running : Runnin
     pub front_comes_on_disk : IsRunning first events handle running → (ask : DiskAsk) → Asks (parts.Disk ask)
         → IsTurnAsking first events e handle running (Some (parts.Disk ask))
         → Comes (OfDisk ask (answer_now (disk_after first events) ask))
-        (refreshes.fed store.parts.objects store.parts.folders refresh (told.Disk (answer_now (disk_after first events) ask)))
+        (refreshes.fed store.parts.objects (listed_for store.parts) refresh (told.Disk (answer_now (disk_after first events) ask)))
     front_comes_on_disk ran ask is turn =
         let answer = answer_now (disk_after first events) ask in
         let exchange : Exchange = record { ask = parts.Disk ask; answer = told.Disk answer } in
@@ -275,12 +278,12 @@ module _ (first : Volume) (events : List Event) (handle : ℕ) (running : Runnin
         (refused_on_disk events e handle running.modes.core running.begun knows.refused ask answer
         (told_call first events e handle running knows.since knows.well ran ask (own_stream ask is) turn))
         (λ turn_it. turn.change ∙ front_quiet ask is) (OfDisk ask answer) refl refl
-        (refreshes.fed store.parts.objects store.parts.folders refresh (told.Disk answer)) refl
+        (refreshes.fed store.parts.objects (listed_for store.parts) refresh (told.Disk answer)) refl
 
     pub front_comes_on_core : (event : CoreEvent) → Asks (parts.Core event)
         → IsTurnAsking first events e handle running (Some (parts.Core event))
         → Comes (OfCore running.modes.core handle event (answer_behind (history_at (cores_after events) running.modes.core) handle event))
-        (refreshes.fed store.parts.objects store.parts.folders refresh (told.Core (answer_behind (history_at (cores_after events) running.modes.core) handle event)))
+        (refreshes.fed store.parts.objects (listed_for store.parts) refresh (told.Core (answer_behind (history_at (cores_after events) running.modes.core) handle event)))
     front_comes_on_core event is turn =
         let answer : CoreAnswer = answer_behind (history_at (cores_after events) running.modes.core) handle event in
         let exchange : Exchange = record { ask = parts.Core event; answer = told.Core answer } in
@@ -289,4 +292,4 @@ module _ (first : Volume) (events : List Event) (handle : ℕ) (running : Runnin
         (refused_on_core events e handle running.modes.core running.begun knows.refused knows.since event turn.turn turn.asked
         (told_event first events e handle running knows.since knows.well event turn))
         (λ turn_it. turn.change) (OfCore running.modes.core handle event answer) refl refl
-        (refreshes.fed store.parts.objects store.parts.folders refresh (told.Core answer)) refl
+        (refreshes.fed store.parts.objects (listed_for store.parts) refresh (told.Core answer)) refl

@@ -8,10 +8,11 @@ use Rattle.gix_odb_world.specs.Work.{Opening}
 use Rattle.gix_odb_world.specs.AtWork.{OpenStore, Store}
 use Rattle.gix_odb_world.specs.Bound.{turn_bound}
 use Rattle.gix_odb_world.specs.Machine.{Machine}
+use Rattle.gix_odb.specs.Store.{listed_for}
 
 abbrev pub opening_fed : Store → OpenStage → Option Answer → OpenStage
 opening_fed store state None = state
-opening_fed store state (Some answer) = openings.fed store.parts.objects store.parts.folders store.parts.slots state answer
+opening_fed store state (Some answer) = openings.fed store.parts.objects (listed_for store.parts) store.parts.slots state answer
 
 -- an opening as a machine: one stat, a listing where its indices are to be counted, the registration, and then its reply
 abbrev pub opening : Machine

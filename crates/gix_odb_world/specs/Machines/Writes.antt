@@ -19,6 +19,7 @@ use Rattle.gix_odb_world.specs.AtWork.{MakeCall, Store}
 use Rattle.gix_odb_world.specs.Bound.{bound_of_task}
 use Rattle.gix_odb_history.specs.Writing.{ToWrite, call_to_write}
 use Rattle.gix_odb_world.specs.Machine.{Machine}
+use Rattle.gix_odb.specs.Store.{listed_for}
 
 -- a write under way: in the refresh before it, at its own turns, or not to be made, since its store could not be listed
 pub data WriteState : Type 0 where
@@ -48,7 +49,7 @@ front_result call step = own_result (result_of_write call)
 
 abbrev pub write_fed : Store → WriteState → Option Answer → Result Reply WriteState
 write_fed store (InFront refresh call) None = Err (InFront refresh call)
-write_fed store (InFront refresh call) (Some answer) = front_result call (refreshes.fed store.parts.objects store.parts.folders refresh answer)
+write_fed store (InFront refresh call) (Some answer) = front_result call (refreshes.fed store.parts.objects (listed_for store.parts) refresh answer)
 write_fed store (Own call) None = own_result (result_of_write call)
 write_fed store (Own call) (Some answer) = own_result (result_of_write (written_on call answer))
 write_fed store (Unlisted error) answer = Ok (unlisted error)

@@ -16,8 +16,8 @@ use Rattle.gix_odb_world.specs.AtWork.{Store}
 abbrev pub find_of : ObjectId → Query
 find_of id = record { want = wants.Object; of = id }
 
--- Each object that a loose file, or an index and the pack of the same name, of a folder of a store held for its id, as they were shown at moments
--- from the opening of the store up to one, has data that hash to that id.
+-- Each object that a loose file, an index and the pack of the same name, or a multi-pack index and a pack that it names, of a folder of a store held for
+-- its id, as they were shown at moments from the opening of the store up to one, has data that hash to that id.
 abbrev pub ObjectsHash : (trees : ℕ → Tree) → (now : ℕ) → Store → Type 0
 ObjectsHash trees now store =
     (id : ObjectId) (folder : Path) → Contains (folder_list store.parts) folder → (contents : Contents)

@@ -20,7 +20,8 @@ use Rattle.gix_odb.specs.Shown.{IsShownView}
 use Rattle.gix_odb.specs.True.{AreTrue}
 use Rattle.gix_odb.specs.declared.look_up.LookUp.{LookUp}
 use Rattle.gix_odb.specs.Contents.{folder_list, sought}
-use Rattle.gix_odb.specs.Held.{WasShownAt}
+use Rattle.gix_odb.specs.Held.{WasShownWith}
+use Rattle.gix_odb.specs.Store.{listed_for}
 use Rattle.gix_odb_world.specs.AtWork.{MakeCall, Modes, Running, Store, setting_in}
 use Rattle.gix_odb_world.specs.Bound.{HasAtMost}
 use Rattle.gix_odb_history.specs.Cores.{cores_after, history_at}
@@ -52,10 +53,10 @@ number_after before (exchange ∷ exchanges) = number_after (number_by before ex
 -- All answers to its handle since it began are true of the run; and where none of them failed, they are fair to what stayed unchanged in a pack.
 pub record IsToldWell (first : Volume) (events : List Event) (handle : ℕ) (store : Store) (modes : Modes) (begun : ℕ) : Type 0 where
   pub opened : store.opened ≤ begun
-  pub snapshot : IsShownView (WasShownAt (tree_at first events) store.opened (length events)) (setting_in store) store.parts.object_hash (view_then events handle modes.core begun)
+  pub snapshot : IsShownView (WasShownWith (tree_at first events) store.opened (length events)) (setting_in store) store.parts.object_hash (view_then events handle modes.core begun)
   pub few : length (view_then events handle modes.core begun).snapshot.indices ≤ modes.slots
   pub place : modes.core < length (cores_after events)
-  pub truth : AreTrue (WasShownAt (tree_at first events) store.opened (length events)) (setting_in store) store.parts.object_hash (told_since events handle begun)
+  pub truth : AreTrue (WasShownWith (tree_at first events) store.opened (length events)) (setting_in store) store.parts.object_hash (told_since events handle begun)
   pub answered : AreAnswered (told_since events handle begun)
   pub numbered : AreNumbered modes.slots 0 (told_since events handle begun)
   pub no_later : number_after 0 (told_since events handle begun) ≤ (present (history_at (cores_after events) modes.core)).list_no
@@ -64,7 +65,8 @@ pub record IsToldWell (first : Volume) (events : List Event) (handle : ℕ) (sto
       → IsGiven first events handle begun ask answer
   pub failures : FailedSince events handle begun → HasFailed (told_since events handle begun)
   pub fair : (id : ObjectId) (place : PackedPlace) → ¬ (FailedSince events handle begun)
-      → IsPackedStill (tree_at first events) store begun (length events) id place → AreFair store.parts.object_hash id place [] (told_since events handle begun)
+      → IsPackedStill (tree_at first events) store begun (length events) id place
+      → AreFair (listed_for store.parts).multi store.parts.object_hash id place [] (told_since events handle begun)
 
 -- ---- what it knows
 

@@ -104,6 +104,7 @@ pub record IsInFront (first : Volume) (events : List Event) (handle : ℕ) (runn
   pub write : ToWrite
   pub of : IsTask running write
   pub is : call ≡ write_at write (write_stages.Making 0)
+  pub opened : running.store.opened ≤ running.begun
   pub since : running.begun ≤ length events
   pub distinct : IsDistinct same_path (folder_list running.store.parts)
   pub refresh_is : More refresh ≡ refresh_now events handle running.store running.modes running.begun

@@ -1,5 +1,5 @@
 //! Multi-pack indices: reading them from bytes, and look-ups.
-ghost use Rattle.std.specs.Prelude.{◌≡◌, ◌<◌, length, map, option_map, slice_get, Some, Ok, IfOk, IfErr};
+ghost use Rattle.std.specs.Prelude.{◌≡◌, ◌↔◌, ◌<◌, IsTrue, length, map, option_map, slice_get, Some, Ok, IfOk, IfErr};
 ghost use Rattle.gix_pack_read.specs.MultiIndex.{multi_index_of, read_of, told, IsRefusal};
 ghost use Rattle.gix_pack_read.specs.MultiIndexLayout.{rows_at, IsLaidOut};
 ghost use Rattle.gix_pack_read.specs.MultiIndexRows.{rows_left};
@@ -97,6 +97,15 @@ impl File {
                 layout: found.layout,
             }),
         }
+    }
+
+    /// Whether these are its bytes, so that they needn't be read again: they are a multi-pack index.
+    #[tactic(auto, using(crate::proofs::ReadLemmas::is_told))]
+    pub fn has_bytes(&self, bytes: &[u8]) -> bool
+        ensures same { IsTrue result ↔ (self.now ≡ bytes.now) }
+        ensures index { multi_index_of self.now ≡ Some (told self.now) }
+    {
+        self.bytes.as_slice() == bytes
     }
 
     // The rows in the bytes.

@@ -1,34 +1,39 @@
 -- While an object lies in a pack, from some moment of a call on, the answers to its handle from then on are fair to it.
-use Rattle.std.proofs.Common.{◌≡◌, inl, inr, ℕ, zero, suc, ◌<◌, ◌≤◌, false, List, [], ◌∷◌, ◌++◌, length, take, Contains, Option, Some, None, Ok, refl, sym, ap, ◌∙◌, subst, append-nil, append_assoc, arith}
+use Rattle.std.proofs.Common.{◌≡◌, inl, inr, ℕ, zero, suc, ◌<◌, ◌≤◌, true, false, List, [], ◌∷◌, ◌++◌, length, take, Contains, Option, Some, None, refl, sym, ap, ◌∙◌, subst, append-nil, append_assoc, arith}
 use Rattle.std.specs.Prelude.{slice_get, unwrap_or}
 use Rattle.std.proofs.lemmas.Bool.{cases_lt, false_from_ne_true}
 use Rattle.odb_disk.specs.Tree.{Tree, tree_of}
-use Rattle.odb_disk.specs.Tree.Follow.{looked, read_of}
+use Rattle.odb_disk.specs.Tree.Follow.{looked}
 use Rattle.odb_disk.specs.Ask.{answer_now, fails_now}
 use Rattle.odb_disk.specs.MemDisk.{Volume}
 use Rattle.odb_disk.specs.declared.ask.DiskAsk.{DiskAsk}
 use Rattle.odb_disk.specs.declared.ask.DiskAsk.TheVariants as asks
 use Rattle.gix_hash.specs.declared.object_id.ObjectId.{ObjectId}
-use Rattle.gix_odb_core.specs.History.{History, opened}
+use Rattle.odb_base.specs.Path.{Path}
+use Rattle.gix_odb_core.specs.History.{History, opened, present}
+use Rattle.gix_odb_core.specs.Replay.{CanHappen}
+use Rattle.gix_odb_core.specs.declared.shape.Shape.{Shape}
 use Rattle.gix_odb_loose.specs.LooseOrder.{disk_ask_of}
-use Rattle.gix_odb_search.specs.PackFolder.{pack_folder}
+use Rattle.gix_odb_search.specs.PackFolder.{is_index_name, pack_folder}
 use Rattle.gix_odb_events.specs.declared.answer.Answer.TheVariants as told
 use Rattle.gix_odb_events.specs.declared.answer.Ask.TheVariants as parts
 use Rattle.gix_odb.specs.LookExchanges.{Exchange}
-use Rattle.gix_odb.specs.Fair.{AreFair, IsDiskFair, IsFair, IsIndexSound, PackedPlace, index_at}
+use Rattle.gix_odb.specs.Fair.{AreFair, Carrier, IsCarried, IsCarriedBy, IsDiskFair, IsFair, IsIndexSound, ItsIndex, PackedPlace, carrier_name, index_at}
 use Rattle.gix_odb.specs.Found.{Gives}
 use Rattle.gix_odb.specs.LookUpOrder as looks
 use Rattle.gix_odb.specs.OpenStream.{IsOnStream, ListsFile}
-use Rattle.gix_odb.specs.Shown.{IsHanded}
+use Rattle.gix_odb.specs.Shown.{IsHanded, ShowedBytes}
+use Rattle.gix_odb.specs.Store.{listed_for}
 use Rattle.gix_odb.specs.Stream.{Stream, stream_by, stream_in}
 use Rattle.gix_odb_world.proofs.CoreLaws.{core_answers_are_fair}
+use Rattle.gix_odb_world.proofs.CoreLaws.MultiRows.{MultisHaveOne}
 use Rattle.gix_odb.proofs.FoundLaws.{what_is_handed_was_shown}
 use Rattle.gix_odb.proofs.StreamLaws.Directories.{looked_file_is_listed}
 use Rattle.gix_odb.proofs.StreamLaws.Exchanges.{next_answer_is_fair}
 use Rattle.gix_odb.proofs.ListerLaws.Streams.{stream_in-push}
 use Rattle.gix_odb.specs.RefreshOrder as refreshes
 use Rattle.gix_odb.proofs.RefreshLaws.{what_a_refresh_hands_on_is_of_the_folders}
-use Rattle.gix_odb.specs.Contents.{folder_list, sought}
+use Rattle.gix_odb.specs.Contents.{ShowsFile, folder_list, sought}
 use Rattle.gix_odb.specs.Held.{WasShownAt}
 use Rattle.gix_odb.proofs.OpenLaws.{openings_ask_no_event}
 use Rattle.gix_odb.specs.declared.call_state.CallStage.TheVariants.{Looking, Refreshing, Refused, Writing}
@@ -43,14 +48,18 @@ use Rattle.gix_odb_world.specs.Machines.{ask_in}
 use Rattle.gix_odb_world.specs.Recorded.{opened_in}
 use Rattle.gix_odb_history.specs.Run.{Fails, FailedSince, IsTurnOf, Stand, did_asked, disk_after, told_now, tree_at}
 use Rattle.gix_odb_world.specs.Running.{Knows, Runs}
-use Rattle.gix_odb_world.specs.Running.PackedStill.{LiesIndexed}
+use Rattle.gix_odb_world.specs.Running.PackedStill.{LiesBy, LiesIndexed, LiesPacked}
 use Rattle.gix_odb_world.specs.Status.{Working, status_of}
 use Rattle.gix_odb_world.specs.Told.{call_of, exchange_of, told_since, view_then}
 use Rattle.gix_odb_history.specs.Writing.{call_to_write}
 use Rattle.gix_odb_world.proofs.MachineLaws.{IsRunning}
 use Rattle.gix_odb_world.proofs.PackedStill.{AreFair-push}
 use Rattle.gix_odb_world.proofs.PackedStill.Answers.{calls_are_fair}
-use Rattle.gix_odb_world.proofs.PackedStill.Rule.{indices_show_one}
+use Rattle.gix_odb_world.proofs.PackedStill.Contents.{carrier_itself}
+use Rattle.gix_odb_world.proofs.PackedStill.Rule.{indices_show_one, multis_show_one}
+use Rattle.gix_odb_world.proofs.ReadsShown.{reads_were_shown, shown_at}
+use Rattle.gix_odb_world.proofs.RefreshHappenLaws.{what_a_refresh_hands_on_can_happen}
+use Rattle.gix_odb_world.proofs.HappenLaws.{what_is_handed_can_happen}
 use Rattle.gix_odb_world.proofs.RunSteps.Fronts.{event_or_end, length_take, none_beyond, take_suc, there_in_front}
 use Rattle.gix_odb_world.proofs.Stock.{HasStock, HasStockAt, stocked}
 use Rattle.gix_odb_world.proofs.Stock.OneCore.{IsStocked, ShownSince}
@@ -64,8 +73,8 @@ use Rattle.gix_odb_world.proofs.RunLaws.QueryTurns.{lawful_front, runs_up_to, tr
 use Rattle.gix_odb_world.proofs.RunLaws.MovedLaws.PackedStream.{IsOpenedSince, called_stream, others_leave, stays_open}
 
 module _ (first : Volume) (events : List Event) (is : IsKnownRun first events) (handle begun : ℕ) (store : Store) (id : ObjectId) (place : PackedPlace)
-    (among : Contains (folder_list store.parts) place.folder) (since last : ℕ) (started : begun ≤ since) (early : store.opened ≤ begun) (until : last ≤ length events)
-    (lies : (moment : ℕ) → since ≤ moment → moment ≤ last → LiesIndexed (tree_at first events moment) store.parts.object_hash id place)
+    (carried : IsCarried (listed_for store.parts).multi place) (among : Contains (folder_list store.parts) place.folder) (since last : ℕ) (started : begun ≤ since) (early : store.opened ≤ begun) (until : last ≤ length events)
+    (lies : (moment : ℕ) → since ≤ moment → moment ≤ last → LiesPacked store.parts (tree_at first events moment) id place)
     (works : ¬ (FailedSince (take last events) handle begun)) where
   abbrev pub before : List Exchange
   before = told_since (take since events) handle begun
@@ -78,7 +87,7 @@ module _ (first : Volume) (events : List Event) (is : IsKnownRun first events) (
   pub record IsFairTo (now : ℕ) : Type 0 where
     pub behind : List Exchange
     pub told_is : told_since (take now events) handle begun ≡ before ++ behind
-    pub fair : AreFair store.parts.object_hash id place before behind
+    pub fair : AreFair (listed_for store.parts).multi store.parts.object_hash id place before behind
     pub stream : HasStream now
 
   abbrev Holds : (now : ℕ) → Type 0
@@ -123,14 +132,14 @@ module _ (first : Volume) (events : List Event) (is : IsKnownRun first events) (
       behind_begun : begun ≤ length past
       behind_begun = let a = started in let b = later in let c = long in omega (arith, a, b, c)
 
-      lies_now : LiesIndexed (tree_of disk.state) store.parts.object_hash id place
+      lies_now : LiesPacked store.parts (tree_of disk.state) id place
       lies_now = lies now later (let lt = up in omega (arith, lt))
 
       -- what holds after one more event
       pub record GoesOn : Type 0 where
         pub behind : List Exchange
         pub told_is : told_since whole handle begun ≡ before ++ behind
-        pub fair : AreFair store.parts.object_hash id place before behind
+        pub fair : AreFair (listed_for store.parts).multi store.parts.object_hash id place before behind
         pub stream : (stream : Stream) → stream_in (told_since whole handle begun) ≡ Some stream → IsOpenedSince first events since last (disk_after first whole) stream
 
       -- nothing was answered
@@ -145,12 +154,12 @@ module _ (first : Volume) (events : List Event) (is : IsKnownRun first events) (
       }
 
       -- there was an exchange
-      told_one : (x : Exchange) → told_since whole handle begun ≡ exchanges ++ x ∷ [] → IsFair store.parts.object_hash id place exchanges x.ask x.answer
+      told_one : (x : Exchange) → told_since whole handle begun ≡ exchanges ++ x ∷ [] → IsFair (listed_for store.parts).multi store.parts.object_hash id place exchanges x.ask x.answer
           → ((stream : Stream) → stream_in (exchanges ++ x ∷ []) ≡ Some stream → IsOpenedSince first events since last (disk_after first whole) stream) → GoesOn
       told_one x more fair stream = record {
         behind = one.behind ++ x ∷ [];
         told_is = more ∙ ap (λ (es : List Exchange). es ++ x ∷ []) one.told_is ∙ append_assoc before one.behind (x ∷ []);
-        fair = AreFair-push store.parts.object_hash id place before one.behind x one.fair (subst (λ (es : List Exchange). IsFair store.parts.object_hash id place es x.ask x.answer) one.told_is fair);
+        fair = AreFair-push (listed_for store.parts).multi store.parts.object_hash id place before one.behind x one.fair (subst (λ (es : List Exchange). IsFair (listed_for store.parts).multi store.parts.object_hash id place es x.ask x.answer) one.told_is fair);
         stream = λ s has. stream s (sym (ap stream_in more) ∙ has);
       }
 
@@ -189,26 +198,26 @@ module _ (first : Volume) (events : List Event) (is : IsKnownRun first events) (
               }))
 
           lists : (stream : Stream) (s : IsOpenedSince first events since last disk stream) → stream.folder ≡ pack_folder place.folder
-              → ListsFile (tree_at first events s.moment) stream.folder place.name
+              → ListsFile (tree_at first events s.moment) stream.folder (carrier_name place)
           lists stream s here =
-              let lie = lies s.moment s.from s.to in
-              looked_file_is_listed (tree_at first events s.moment) stream.folder (stream.entries ++ s.coming) place.name lie.itself.meta s.is.fixed
-              (ap (λ f. looked (tree_at first events s.moment) (f ++ place.name ∷ []) false) here ∙ lie.itself.looks) lie.itself.is_file
+              let itself = carrier_itself store.parts (tree_at first events s.moment) id place (lies s.moment s.from s.to) in
+              looked_file_is_listed (tree_at first events s.moment) stream.folder (stream.entries ++ s.coming) (carrier_name place) itself.meta s.is.fixed
+              (ap (λ f. looked (tree_at first events s.moment) (f ++ carrier_name place ∷ []) false) here ∙ itself.looks) itself.is_file
 
-          next_fair : (dir : ℕ) → ask ≡ asks.NextEntry dir → IsDiskFair store.parts.object_hash id place exchanges (asks.NextEntry dir) (answer_now disk (asks.NextEntry dir))
+          next_fair : (dir : ℕ) → ask ≡ asks.NextEntry dir → IsDiskFair (listed_for store.parts).multi store.parts.object_hash id place exchanges (asks.NextEntry dir) (answer_now disk (asks.NextEntry dir))
           next_fair dir is_next =
               let two = asks_its.on dir (subst (λ (a : DiskAsk). IsOnStream dir a) (sym is_next) refl) in
               let has : stream_in exchanges ≡ Some two.0 = sym (ap (λ n. stream_in (told_since past handle n)) same) ∙ two.1 in
               let s = one.stream two.0 has in
-              subst (λ (n : ℕ). IsDiskFair store.parts.object_hash id place exchanges (asks.NextEntry n) (answer_now disk (asks.NextEntry n))) two.2
-              (next_answer_is_fair store.parts.object_hash id place (tree_at first events s.moment) disk two.0 s.coming s.is (lists two.0 s) exchanges has)
+              subst (λ (n : ℕ). IsDiskFair (listed_for store.parts).multi store.parts.object_hash id place exchanges (asks.NextEntry n) (answer_now disk (asks.NextEntry n))) two.2
+              (next_answer_is_fair (listed_for store.parts).multi store.parts.object_hash id place (tree_at first events s.moment) disk two.0 s.coming s.is (lists two.0 s) exchanges has)
 
           called : GoesOn
           called =
               let x : Exchange = record { ask = parts.Disk ask; answer = told.Disk (answer_now disk ask) } in
               let asked : e.asked ≡ OfDisk ask (answer_now disk ask) = told_so (Some (parts.Disk ask)) same_ask in
               told_one x (told_turn past e handle begun behind_begun turn (OfDisk ask (answer_now disk ask)) asked x refl)
-              (calls_are_fair store.parts.object_hash id place disk lies_now exchanges ask unfailed next_fair)
+              (calls_are_fair store.parts id place disk lies_now exchanges ask unfailed next_fair)
               (λ stream has.
               called_stream first events is since last now later (let lt = up in omega (arith, lt)) e there handle was status ask asks_its asked
               (λ s old. one.stream s (sym (ap (λ n. stream_in (told_since past handle n)) same) ∙ old)) stream
@@ -231,10 +240,11 @@ module _ (first : Volume) (events : List Event) (is : IsKnownRun first events) (
             status = status;
           }
 
-          -- the core is that of its store, and gets only what was shown
+          -- the core is that of its store, and gets only what was shown, and what can happen
           record IsHandedWell : Type 0 where
             stock : IsStocked first past was.modes.core was.store
             handed : IsHanded (ShownSince first past was.store) (setting_in was.store) was.store.parts.object_hash event
+            can : (shape : Shape) → CanHappen shape handle event
 
           stock_at : (task : Task) → was.task ≡ task → HasStockAt first past was.store was.modes task
           stock_at task is_task =
@@ -245,19 +255,27 @@ module _ (first : Volume) (events : List Event) (is : IsKnownRun first events) (
           by (Calling (Looking look)) knows asked =
               let setting = setting_in was.store in
               let view = view_then past handle was.modes.core was.begun in
+              let id = sought was.store.parts was.modes.ignoring knows.query in
+              let asks_now = ap looks.ask_of (sym knows.is) ∙ asked in
               record {
                 stock = stock_at (MakeCall (call_of knows.query)) knows.task;
                 handed =
-                    what_is_handed_was_shown (ShownSince first past was.store) setting was.store.parts.object_hash knows.query.want (sought was.store.parts was.modes.ignoring knows.query)
-                    knows.fits.hashed view knows.well.snapshot (told_since past handle was.begun) knows.asked knows.well.truth (parts.Core event)
-                    (ap looks.ask_of (sym knows.is) ∙ asked);
+                    what_is_handed_was_shown (ShownSince first past was.store) setting was.store.parts.object_hash knows.query.want id
+                    knows.fits.hashed view knows.well.snapshot (told_since past handle was.begun) knows.asked knows.well.truth (parts.Core event) asks_now;
+                can = λ shape.
+                    what_is_handed_can_happen setting knows.fits.distinct view knows.query.want id (told_since past handle was.begun) knows.asked event asks_now shape handle;
               }
           by (Calling (Refreshing refresh call)) knows asked =
+              let setting = setting_in was.store in
+              let view = view_then past handle was.modes.core was.begun in
+              let asks_now = ap refreshes.asked_of (sym knows.refresh_is) ∙ asked in
               record {
                 stock = stock_at (MakeCall (call_to_write knows.write)) knows.of.task;
                 handed =
-                    what_a_refresh_hands_on_is_of_the_folders (setting_in was.store) (view_then past handle was.modes.core was.begun) (told_since past handle was.begun) knows.asked
-                    (ShownSince first past was.store) was.store.parts.object_hash event (ap refreshes.asked_of (sym knows.refresh_is) ∙ asked);
+                    what_a_refresh_hands_on_is_of_the_folders setting view (told_since past handle was.begun) knows.asked
+                    (ShownSince first past was.store) was.store.parts.object_hash (reads_were_shown first past ran.lawful handle was.begun was.store.opened knows.opened) event
+                    asks_now;
+                can = λ shape. what_a_refresh_hands_on_can_happen setting view (told_since past handle was.begun) knows.asked knows.distinct event asks_now shape handle;
               }
           by (Calling (Writing call)) knows asked = absurd (no_event (disk_ask_of call) event asked)
           by (Calling (Refused error)) knows asked = absurd knows
@@ -266,29 +284,43 @@ module _ (first : Volume) (events : List Event) (is : IsKnownRun first events) (
           handed_well = by was.work runs.1 asks_it
 
           -- what was shown as the index since the store was opened is what it shows now
-          index_sound : (bytes : List ℕ) → ShownSince first past was.store (index_at place) bytes → IsIndexSound was.store.parts.object_hash id place bytes
-          index_sound bytes was_shown =
+          index_sound : place.carrier ≡ ItsIndex → (bytes : List ℕ) → ShowedBytes (ShownSince first past was.store) (index_at place) bytes
+              → IsIndexSound (listed_for was.store.parts).multi was.store.parts.object_hash id place bytes
+          index_sound by_index bytes was_shown =
               let count = long in
               let opened_early : was.store.opened ≤ now = subst (λ (s : Store). s.opened ≤ now) (sym own) (let a = early in let b = started in let c = later in omega (arith, a, b, c)) in
-              let here : WasShownAt (tree_at first past) was.store.opened (length past) (index_at place) lies_now.index =
+              let lies_here : LiesIndexed store.parts (tree_of disk.state) id place =
+              subst (λ (carrier : Carrier). LiesBy carrier store.parts (tree_of disk.state) id place) by_index lies_now.by_carrier in
+              let named : is_index_name place.name ≡ true = subst (IsCarriedBy (listed_for store.parts).multi place.name) by_index carried in
+              let here : WasShownAt (tree_at first past) was.store.opened (length past) (index_at place) lies_here.index =
               record {
                 moment = now;
                 from = opened_early;
                 to = omega (arith, count);
-                was = subst (λ (t : Tree). (time : ℕ) × (read_of t (index_at place) ≡ Ok (lies_now.index, time))) (sym (tree_in_front first events now now (omega arith))) lies_now.shows_index;
+                was = subst (λ (t : Tree). ShowsFile t (index_at place) lies_here.index) (sym (tree_in_front first events now now (omega arith))) lies_here.shows_index;
               } in
               let its : Contains (folder_list was.store.parts) place.folder = subst (λ (s : Store). Contains (folder_list s.parts) place.folder) (sym own) among in
-              let one_content : lies_now.index ≡ bytes = indices_show_one first past handle was ran place.folder its place.name place.named lies_now.index bytes here was_shown in
-              subst (λ (s : Store). IsIndexSound s.parts.object_hash id place bytes) (sym own) (subst (λ bs. Gives store.parts.object_hash bs id place.offset) one_content lies_now.gives)
+              let one_content : lies_here.index ≡ bytes =
+              indices_show_one first past handle was ran place.folder its place.name named lies_here.index bytes here
+              (shown_at (tree_at first past) was.store.opened (length past) (index_at place) bytes was_shown) in
+              subst (λ (s : Store). IsIndexSound (listed_for s.parts).multi s.parts.object_hash id place bytes) (sym own)
+              (subst (λ bs. Gives store.parts.object_hash bs id place.offset) one_content lies_here.gives)
 
-          core_fair : IsFair store.parts.object_hash id place exchanges (parts.Core event) (told.Core answer)
+          rule : MultisHaveOne (ShownSince first past was.store) (setting_in was.store)
+          rule path at_multi time one other was_one was_other =
+              multis_show_one first past handle was ran at_multi.folder at_multi.among time one other
+              (subst (λ (p : Path). ShownSince first past was.store p time one) at_multi.is was_one)
+              (subst (λ (p : Path). ShownSince first past was.store p time other) at_multi.is was_other)
+
+          core_fair : IsFair (listed_for store.parts).multi store.parts.object_hash id place exchanges (parts.Core event) (told.Core answer)
           core_fair =
               let stock = handed_well.stock in
               let is_there : history_at (cores_after past) was.modes.core ≡ stock.history = ap (λ o. unwrap_or o (opened 0 0 0 0)) stock.there in
-              subst (λ (s : Store). IsFair s.parts.object_hash id place exchanges (parts.Core event) (told.Core answer)) own
+              subst (λ (s : Store). IsFair (listed_for s.parts).multi s.parts.object_hash id place exchanges (parts.Core event) (told.Core answer)) own
               (core_answers_are_fair stock.history.opening stock.history.entries handle event answer (ap (λ (h : History). answer_behind h handle event) is_there)
-              (is_opened first past was.store stock.history stock.of) stock.of.legal (ShownSince first past was.store) (setting_in was.store) was.store.parts.object_hash stock.of.handed
-              handed_well.handed id place index_sound exchanges)
+              (is_opened first past was.store stock.history stock.of) stock.of.legal stock.of.possible (handed_well.can (present stock.history)) (ShownSince first past was.store) (setting_in was.store)
+              was.store.parts.object_hash stock.of.handed handed_well.handed rule id place
+              (subst (λ (s : Store). IsCarried (listed_for s.parts).multi place) (sym own) carried) index_sound exchanges)
 
           entered : GoesOn
           entered =
