@@ -118,7 +118,20 @@ expect 'a script without end' 2 "${told}line 3 refused\n" world < <(long $((1 <<
 expect_told 'a script without end' "line 3: the script is longer than $limit bytes" world < <(long $((1 << 50)) 2>/dev/null)
 expect_told 'a script of one byte more' "line 3: the script is longer than $limit bytes" world < <(long $((limit - 12)) 2>/dev/null)
 
-# The same, by a program that may have less memory than the script takes.
+# A folder whose multi-pack index names so many packs, each with the empty blob, and a test, a write and an opening there.
+with_packs() { # COUNT
+    printf 'mkdir /o\nmkdir /o/pack\nput /o/pack/multi-pack-index 1 @midx:'
+    seq -s ';' -f '%05.0f=blob:-' 1 "$1"
+    printf '%s\n' steps 'open 0 /o slots=1' 'finish 0' "test 0 $empty" 'finish 0' 'write 0 blob -' 'finish 0' 'open 1 /o' 'finish 1'
+}
+empty=e69de29bb2d1d6434b8b29ae775ad8c2e48c5391
+expect 'a multi-pack index of the most packs' 0 "applied\nopened 1\napplied\ntest yes\napplied\nwrote $empty\napplied\nopened 32\n" \
+    world < <(with_packs 65535)
+told='load-index too-many-packs 65536 /o/pack/multi-pack-index'
+expect 'a multi-pack index of one pack too many' 0 \
+    "applied\nopened 1\napplied\nerror $told\napplied\nerror write $told\napplied\nerror open $told\n" world < <(with_packs 65536)
+
+# The script of the greatest length, by a program that may have less memory than it takes.
 found=$(long $((limit - 13)) 2>/dev/null | (ulimit -v 60000 && exec "$program" world 2>/dev/null); echo "status $?")
 if [ "$found" != 'status 5' ]; then
     printf 'examples: want of memory comes to\n%s\n' "$found" >&2

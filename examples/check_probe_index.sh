@@ -68,4 +68,29 @@ for word in -h help $'\xff'; do
 done
 [ "$("$program" --help <whole | tail -n 1)" = 'probe_index --help writes this text, and probe_index --version the version.' ] || fail "--help ends with something else"
 
+# Of the multi-pack index that Git wrote it says what the world finds: at each place the pack has the object that git_multi_index.output has.
+script=$here/../../examples/git_multi_index.script
+kinds=('' commit tree blob tag)
+hex_of() { sed -n "s|^put $1 [0-9]* ||p" "$script"; } # PATH
+object_at() { # PATH OFFSET
+    local hex byte size shift=4 at=$(($2 * 2)) kind
+    hex=$(hex_of "$1")
+    byte=$((16#${hex:at:2}))
+    kind=${kinds[byte >> 4 & 7]}
+    size=$((byte & 15))
+    while ((byte & 128)); do
+        at=$((at + 2))
+        byte=$((16#${hex:at:2}))
+        size=$((size | (byte & 127) << shift))
+        shift=$((shift + 7))
+    done
+    echo "found $kind $size ${hex:at + 2:size * 2}"
+}
+printf '%b' "$(hex_of /o/pack/multi-pack-index | sed 's/../\\x&/g')" >multi
+ids=$(sed -n '/^header/q; s/^find 0 //p' "$script")
+# shellcheck disable=SC2086
+places=$("$program" $ids <multi) || fail "refuses the multi-pack index that Git wrote"
+[ "$(while read -r _ offset name; do object_at "/o/pack/${name%.idx}.pack" "$offset"; done <<<"$places")" = \
+    "$(grep '^found' "${script%.script}.output" | head -n "$(wc -w <<<"$ids")")" ] || fail "and the world differ on the multi-pack index that Git wrote"
+
 exit "$wrong"

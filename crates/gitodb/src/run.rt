@@ -33,7 +33,7 @@ with `#` say nothing. See docs/SCRIPT.md for the whole language.
 
   open H PATH                handle H begins to open the store at PATH; options:
                              slots=N, folder=PATH, replace=HEX:HEX, limit=N,
-                             changes=N, hash=sha256
+                             changes=N, midx=no, hash=sha256
   clone NEW H                NEW is a further handle on the store of an idle
                              handle H
   close H                    closes an idle handle
@@ -60,8 +60,7 @@ CONTENT is DATA, @loose:OBJ, @pack:OBJ,OBJ.., @idx:OBJ,OBJ.. or
 or tag; DATA is hex, or `-` for nothing. HEX has 40 lower-case digits, or 64 in
 a store that is opened with hash=sha256. Numbers are decimal.
 
-Known, and not built yet (status 8): ids, upgrade, never, prefix, locate, entry;
-the option midx= of open.
+Known, and not built yet (status 8): ids, upgrade, never, prefix, locate, entry.
 
 status  0 done   1 words not understood   2 a line was refused   3 read fault
         4 write fault   5 out of memory   8 a line has a word not built yet

@@ -1,11 +1,10 @@
 -- Laws of options.
-use Rattle.std.proofs.Common.{◌≡◌, ℕ, ◌==◌, ◌||◌, Bool, List, [], ◌∷◌, Bor, Option, Some, None, is_some, sym, ap, refl, lit<, arith}
-use Rattle.std.specs.List.{list_any, position_or_len}
+use Rattle.std.proofs.Common.{◌≡◌, ℕ, ◌==◌, List, Bor, Option, Some, None, is_some, sym, lit<, arith}
+use Rattle.std.specs.List.{position_or_len}
 use Rattle.std.proofs.lemmas.List.Folds.{list_any_none, list_any_at}
 use Rattle.std.proofs.lemmas.List.Sums.{fails_before_first, passes_at_first}
 use Rattle.std.proofs.lemmas.Str.Pattern.{IsSplitOnceResult, split_once_first}
 use Rattle.odb_script.specs.Opening.{has_value}
-use Rattle.odb_script.specs.Line.{texts_of}
 
 -- an option has a value if `split_once` finds `=`
 pub has_value-split : (option : List ℕ) (parts : Option (Bor (List ℕ) × Bor (List ℕ))) → IsSplitOnceResult 61 option parts → is_some parts ≡ has_value option
@@ -15,8 +14,3 @@ has_value-split option None h =
 has_value-split option (Some parts) h =
     let found = split_once_first 61 option (Some parts) h (lit< tt) in
     sym (list_any_at (λ b. b == 61) option (position_or_len (λ b. b == 61) option) 0 found.0 (passes_at_first (λ b. b == 61) option 0 found.0))
-
--- a test of texts, as one of references to them
-pub any_of_texts : (test : List ℕ → Bool) (options : List (Bor (List ℕ))) → list_any test (texts_of options) ≡ list_any (λ option. test option.now) options
-any_of_texts test [] = refl
-any_of_texts test (option ∷ options) = ap (λ b. test option.now || b) (any_of_texts test options)

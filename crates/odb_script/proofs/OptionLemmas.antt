@@ -1,7 +1,7 @@
 -- Laws of openings: what options spell is chosen.
-use Rattle.std.proofs.Common.{◌≡◌, ℕ, ◌^◌, ◌<◌, ◌==◌, Bool, true, false, not, List, [], ◌∷◌, ◌++◌, map, codes, Some, refl, ap, ◌∙◌, arith}
+use Rattle.std.proofs.Common.{◌≡◌, ℕ, ◌^◌, ◌<◌, ◌==◌, true, not, List, [], ◌∷◌, ◌++◌, map, codes, Some, refl, ap, ◌∙◌, arith}
 use Rattle.std.specs.Fmt.{decimal}
-use Rattle.std.specs.List.{list_all, list_any, AllByRecursion}
+use Rattle.std.specs.List.{list_all, AllByRecursion}
 use Rattle.std.proofs.lemmas.Bool.{and_parts}
 use Rattle.odb_base.specs.Path.{Path, is_name, text_of}
 use Rattle.odb_base.specs.PathLaws.{path_of-text_of}
@@ -10,11 +10,11 @@ use Rattle.gix_hash.specs.ObjectId.{IsId, hex_of, id_of, is_lower_text, is_lower
 use Rattle.gix_hash.specs.declared.object_id.ObjectId.{ObjectId}
 use Rattle.gix_hash.proofs.ObjectIdLemmas.{id_of-hex_of, is_lower_text-hex_of}
 use Rattle.odb_script.specs.declared.choice.Choice.{Choice}
-use Rattle.odb_script.specs.declared.choice.Choice.TheVariants.{Folder, Replacement, Slots, Limit, Changes, Sha256}
+use Rattle.odb_script.specs.declared.choice.Choice.TheVariants.{Folder, Replacement, Slots, Limit, Changes, NoMultiPackIndex, Sha256}
 use Rattle.odb_script.specs.declared.choice.Chosen.{Chosen}
 use Rattle.odb_script.specs.Word.{word_of}
 use Rattle.odb_script.specs.Line.{line_item, item_of}
-use Rattle.odb_script.specs.Opening.{first_id, second_id, is_unbuilt_option, choice_of, with_choice, with_next, nothing_chosen, chosen_by, opening_at, open_of}
+use Rattle.odb_script.specs.Opening.{first_id, second_id, choice_of, with_choice, with_next, nothing_chosen, chosen_by, opening_at, open_of}
 use Rattle.odb_script.proofs.SplitLemmas.{after_first-followed, before_first-followed, lacks}
 use Rattle.odb_script.proofs.LineLemmas.{AreFields, line_of, item_of-line_of, IsField-word, IsField-decimal, handle_of-decimal}
 
@@ -47,6 +47,7 @@ spelled (Replacement id by) = codes "replace=" ++ hex_of id ++ 58 ∷ hex_of by
 spelled (Slots slots) = codes "slots=" ++ decimal slots
 spelled (Limit bytes) = codes "limit=" ++ decimal bytes
 spelled (Changes changes) = codes "changes=" ++ decimal changes
+spelled NoMultiPackIndex = codes "midx=no"
 spelled Sha256 = codes "hash=sha256"
 
 -- what an option can choose
@@ -56,6 +57,7 @@ IsChoice (Replacement id by) = IsId id × IsId by
 IsChoice (Slots slots) = slots < 2 ^ 16
 IsChoice (Limit bytes) = bytes < 2 ^ 64
 IsChoice (Changes changes) = changes < 2 ^ 32
+IsChoice NoMultiPackIndex = Unit {0}
 IsChoice Sha256 = Unit {0}
 
 abbrev pub AreChoices : List Choice → Type 0
@@ -67,19 +69,8 @@ choice_of-spelled (Replacement id by) is = rw (first_is id by is.0 is.1, second_
 choice_of-spelled (Slots slots) is = rw (number_below-is (2 ^ 16) (decimal slots) slots (number_of-decimal slots (omega arith)) is) refl
 choice_of-spelled (Limit bytes) is = rw (number_of-decimal bytes is) refl
 choice_of-spelled (Changes changes) is = rw (number_below-is (2 ^ 32) (decimal changes) changes (number_of-decimal changes (omega arith)) is) refl
+choice_of-spelled NoMultiPackIndex is = refl
 choice_of-spelled Sha256 is = refl
-
-built : (choice : Choice) → IsChoice choice → is_unbuilt_option (spelled choice) ≡ false
-built (Folder path) is = refl
-built (Replacement id by) is = refl
-built (Slots slots) is = refl
-built (Limit bytes) is = refl
-built (Changes changes) is = refl
-built Sha256 is = refl
-
-all_built : (choices : List Choice) → AreChoices choices → list_any is_unbuilt_option (map spelled choices) ≡ false
-all_built [] are = refl
-all_built (choice ∷ choices) are = rw (built choice are.0, all_built choices are.1) refl
 
 -- ---- what options choose together
 
@@ -101,4 +92,4 @@ pub item_of-open : (handle : ℕ) (path : Path) (choices : List Choice) → hand
 unfolding word_of line_item open_of
 item_of-open handle path choices small names are fields =
     item_of-line_of 111 (codes "pen") (decimal handle ∷ text_of path ∷ map spelled choices) refl (IsField-word (codes "open") refl refl, (IsField-decimal handle (omega arith), fields))
-    ∙ rw (all_built choices are, handle_of-decimal handle small, path_of-text_of path names, chosen_by-spelled choices nothing_chosen are) refl
+    ∙ rw (handle_of-decimal handle small, path_of-text_of path names, chosen_by-spelled choices nothing_chosen are) refl

@@ -1,8 +1,8 @@
 -- Lemmas on openings whose fields and options are what they have to be: they are read.
-use Rattle.std.proofs.Common.{◌≡◌, ◌≢◌, ℕ, ◌+◌, Bool, true, false, List, [], ◌∷◌, Option, Some, None, is_some, refl, ap, ◌∙◌}
+use Rattle.std.proofs.Common.{◌≡◌, ◌≢◌, ℕ, ◌+◌, Bool, true, false, List, [], ◌∷◌, Some, None, is_some, refl, ap, ◌∙◌}
 use Rattle.std.specs.List.{AllByRecursion}
 use Rattle.odb_base.specs.Path.{path_of}
-use Rattle.odb_script.specs.Opening.{choice_of, chosen_by, handle_of, is_unbuilt, nothing_chosen, open_of, with_choice, with_next}
+use Rattle.odb_script.specs.Opening.{choice_of, chosen_by, handle_of, nothing_chosen, open_of, with_choice, with_next}
 use Rattle.odb_script.specs.Split.{Fields}
 use Rattle.odb_script.specs.declared.choice.Chosen.{Chosen}
 use Rattle.odb_script.specs.declared.item.Item.TheVariants as items
@@ -52,15 +52,11 @@ opening_spelled handle path options h = by_handle (is_some (handle_of handle)) r
 
 pub opens : (handle path : List ℕ) (options : Fields) → IsOpening handle path options → open_of handle path options ≢ items.Refused
 unfolding open_of
-opens handle path options is h = by_test (is_unbuilt options) refl
-  where
-    by_test : (b : Bool) → is_unbuilt options ≡ b → ⊥
-    by_test true e = cc (rw e at h)
-    by_test false e =
-        let hd = some_is (handle_of handle) is.handle_is in
-        let p = some_is (path_of path) is.path_is in
-        let all = chosen_some options nothing_chosen is.options_are in
-        cc (rw (e, hd.1, p.1, all.1) at h)
+opens handle path options is h =
+    let hd = some_is (handle_of handle) is.handle_is in
+    let p = some_is (path_of path) is.path_is in
+    let all = chosen_some options nothing_chosen is.options_are in
+    cc (rw (hd.1, p.1, all.1) at h)
 
 pub no_path : (handle : List ℕ) → first_wrong (Some Choice_) (Handle ∷ Path ∷ []) (handle ∷ []) 2 ≢ None
 unfolding first_wrong

@@ -9,6 +9,5 @@ pub mod Script
 pub mod Expected
 pub mod Fault
 pub mod Reason
-pub mod Unbuilt
 pub mod Told
 pub mod Print

@@ -1,5 +1,5 @@
 -- The opening of a store as fields, the last of which are options.
-use Rattle.std.specs.Prelude.{ℕ, ◌^◌, ◌==◌, ◌&&◌, Bool, List, [], ◌∷◌, ◌++◌, codes, Option, Some, None, if◌then◌else◌}
+use Rattle.std.specs.Prelude.{ℕ, ◌^◌, ◌==◌, Bool, true, false, List, [], ◌∷◌, ◌++◌, codes, Option, Some, None, if◌then◌else◌}
 use Rattle.std.specs.List.{list_any}
 use Rattle.std.specs.Option.{option_map}
 use Rattle.odb_base.specs.Decimal.{number_of, number_below}
@@ -40,15 +40,6 @@ first_id pair = id_of (before_colon pair)
 abbrev pub second_id : List ℕ → Option ObjectId
 second_id pair = id_of (after_colon pair)
 
--- ---- what isn't built yet
-
--- an option that has this name
-abbrev pub is_unbuilt_option : List ℕ → Bool
-is_unbuilt_option option = has_value option && same_name (name_in option) (codes "midx")
-
-abbrev pub is_unbuilt : List (List ℕ) → Bool
-is_unbuilt options = list_any is_unbuilt_option options
-
 -- ---- what is chosen
 
 -- an id, and the one that is looked up instead
@@ -56,6 +47,10 @@ abbrev pub replacement : Option ObjectId → Option ObjectId → Option Choice
 replacement None by = None
 replacement (Some id) None = None
 replacement (Some id) (Some by) = Some (choices.Replacement id by)
+
+-- the one value by which multi-pack indices aren't used
+abbrev pub midx_choice : List ℕ → Option Choice
+midx_choice value = if same_name value (codes "no") then Some choices.NoMultiPackIndex else None
 
 -- the one hash that is chosen by its name
 abbrev pub hash_choice : List ℕ → Option Choice
@@ -69,6 +64,7 @@ named_choice name value =
     else if same_name name (codes "slots") then option_map choices.Slots (number_below (2 ^ 16) value)
     else if same_name name (codes "limit") then option_map choices.Limit (number_of value)
     else if same_name name (codes "changes") then option_map choices.Changes (number_below (2 ^ 32) value)
+    else if same_name name (codes "midx") then midx_choice value
     else if same_name name (codes "hash") then hash_choice value
     else None
 
@@ -82,6 +78,7 @@ with_choice chosen (choices.Replacement id by) = record chosen { replacements = 
 with_choice chosen (choices.Slots slots) = record chosen { slots = Some slots }
 with_choice chosen (choices.Limit bytes) = record chosen { limit = Some bytes }
 with_choice chosen (choices.Changes changes) = record chosen { max_changes = changes }
+with_choice chosen choices.NoMultiPackIndex = record chosen { use_multi_pack_index = false }
 with_choice chosen choices.Sha256 = record chosen { hash = hashes.Sha256 }
 
 -- the changes of the list of indices that a call tolerates by default
@@ -90,7 +87,7 @@ default_changes = 16
 
 -- what is chosen before the first option
 abbrev pub nothing_chosen : Chosen
-nothing_chosen = record { folders = []; replacements = []; slots = None; limit = None; max_changes = default_changes; hash = hashes.Sha1 }
+nothing_chosen = record { folders = []; replacements = []; slots = None; use_multi_pack_index = true; limit = None; max_changes = default_changes; hash = hashes.Sha1 }
 
 -- one option, and then what the others choose
 abbrev pub with_next : (Chosen → Option Chosen) → Chosen → Option Choice → Option Chosen
@@ -110,7 +107,7 @@ slots_of None = default_slots
 slots_of (Some slots) = Given slots
 
 abbrev pub options_of : Chosen → Options
-options_of chosen = record { slots = slots_of chosen.slots; alloc_limit_bytes = chosen.limit; max_changes = chosen.max_changes }
+options_of chosen = record { slots = slots_of chosen.slots; use_multi_pack_index = chosen.use_multi_pack_index; alloc_limit_bytes = chosen.limit; max_changes = chosen.max_changes }
 
 -- an opening by what is chosen
 abbrev pub opening_at : ℕ → Path → Chosen → Item
@@ -122,9 +119,6 @@ open_with (Some handle) None chosen = items.Refused
 open_with (Some handle) (Some path) None = items.Refused
 open_with (Some handle) (Some path) (Some chosen) = opening_at handle path chosen
 
--- an opening; one that isn't built yet is checked by its options alone
+-- an opening by its fields
 unfoldable pub open_of : List ℕ → List ℕ → List (List ℕ) → Item
-open_of handle path options =
-    if is_unbuilt options
-    then items.NotBuilt
-    else open_with (handle_of handle) (path_of path) (chosen_by options nothing_chosen)
+open_of handle path options = open_with (handle_of handle) (path_of path) (chosen_by options nothing_chosen)

@@ -3,7 +3,7 @@ use Rattle.std.specs.Prelude.{ℕ, Bool, true, false, List, [], ◌∷◌, ◌++
 use Rattle.std.specs.List.{flat_map}
 use Rattle.std.specs.Fmt.{decimal}
 use Rattle.hex.specs.Hex.{encode_lower}
-use Rattle.odb_base.specs.Path.{text_of}
+use Rattle.odb_base.specs.Path.{Path, text_of}
 use Rattle.gix_hash.specs.ObjectId.{hex_of}
 use Rattle.gix_object.specs.Kind.{kind_word}
 use Rattle.gix_odb_calls.specs.declared.step.Outcome.{Outcome}
@@ -44,10 +44,15 @@ why_text WrongHash = codes "wrong-hash"
 why_text ImpossibleChange = codes "impossible-change"
 why_text TwoContents = codes "two-contents"
 
+-- the number of packs that a multi-pack index names, and its path
+abbrev pub too_many_packs_text : ℕ → Path → List ℕ
+too_many_packs_text actual path = (codes "too-many-packs " ++ decimal actual) ++ (codes " " ++ text_of path)
+
 abbrev pub load_index_text : load_index.Error → List ℕ
 load_index_text load_index_errors.Io = codes "io"
 load_index_text (load_index_errors.InsufficientSlots current needed) = (codes "insufficient-slots " ++ decimal current) ++ (codes " " ++ decimal needed)
 load_index_text load_index_errors.GenerationOverflow = codes "generation-overflow"
+load_index_text (load_index_errors.TooManyPacksInMultiIndex actual limit path) = too_many_packs_text actual path
 load_index_text (load_index_errors.Unsettled begun own now) =
     (codes "unsettled " ++ decimal begun) ++ (codes " " ++ decimal own) ++ (codes " " ++ decimal now)
 load_index_text load_index_errors.NoMemory = codes "no-memory"

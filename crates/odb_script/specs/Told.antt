@@ -1,5 +1,5 @@
 -- Why a line is refused, or what of one isn't built yet, in the words on standard error.
-use Rattle.std.specs.Prelude.{ℕ, ◌-◌, ◌&&◌, Bool, true, false, List, [], ◌∷◌, ◌++◌, codes, get_or, length, nat_le, take, Option, Some, None, if◌then◌else◌}
+use Rattle.std.specs.Prelude.{ℕ, ◌-◌, ◌&&◌, Bool, true, false, List, [], ◌∷◌, ◌++◌, codes, get_or, length, nat_le, take, if◌then◌else◌}
 use Rattle.std.specs.List.{flat_map}
 use Rattle.std.specs.Fmt.{decimal}
 use Rattle.hex.specs.Hex.{encode_lower}
@@ -10,7 +10,6 @@ use Rattle.odb_script.specs.declared.reader.Ending.TheVariants.{Whole, RefusedAt
 use Rattle.odb_script.specs.declared.reader.Script.{Script}
 use Rattle.odb_script.specs.Expected.{name_of}
 use Rattle.odb_script.specs.Reason.{line_at, reason_in}
-use Rattle.odb_script.specs.Unbuilt.{unbuilt_field}
 use Rattle.odb_script.specs.declared.fault.Mistake.{Mistake}
 use Rattle.odb_script.specs.declared.fault.Mistake.TheVariants.{NoSuchWord, NoSuchChange, Not, Missing, TooMany}
 use Rattle.odb_script.specs.declared.reason.Reason.{Reason}
@@ -78,13 +77,9 @@ told_at script bytes number =
     then told_in false script bytes number
     else told_in true script (take script_limit bytes) number
 
--- the message on the line with this number, which isn't built yet
-abbrev pub unbuilt_told : List ℕ → Option ℕ → List ℕ
-unbuilt_told line None = codes ": not built yet"
-unbuilt_told line (Some number) = codes ", field " ++ decimal number ++ codes ": not built yet: " ++ shown (field_at line number)
-
+-- the message on the line with this number, whose word isn't built yet
 abbrev pub unbuilt_line : ℕ → List ℕ → List ℕ
-unbuilt_line number line = codes "line " ++ decimal number ++ unbuilt_told line (unbuilt_field line)
+unbuilt_line number line = codes "line " ++ decimal number ++ (codes ", field 1: not built yet: " ++ shown (field_at line 1))
 
 unfoldable pub unbuilt_at : List ℕ → ℕ → List ℕ
 unbuilt_at bytes number =

@@ -3,7 +3,7 @@ ghost use Rattle.std.specs.Prelude.{◌≡◌, ◌^◌, IfOk, IfSome, is_some};
 ghost use Rattle.std.specs.Option.{option_map};
 ghost use Rattle.odb_base.specs.Decimal.{number_of, number_below};
 ghost use Rattle.odb_script.specs.Line.{texts_of};
-ghost use Rattle.odb_script.specs.Opening.{has_value, name_in, value_in, replacement, first_id, second_id, hash_choice, named_choice, choice_of, with_choice, nothing_chosen, chosen_by};
+ghost use Rattle.odb_script.specs.Opening.{has_value, name_in, value_in, replacement, first_id, second_id, midx_choice, hash_choice, named_choice, choice_of, with_choice, nothing_chosen, chosen_by};
 
 use crate::field::{id_of, path_of};
 use crate::split::at_colon;
@@ -25,6 +25,8 @@ pub enum Choice {
     Limit(u64),
     /// The most changes of the list of indices that a call tolerates.
     Changes(u32),
+    /// The multi-pack indices of the folders aren't used.
+    NoMultiPackIndex,
     /// The ids of the store are of SHA-256.
     Sha256,
 }
@@ -39,6 +41,8 @@ pub struct Chosen {
     pub folders: PathList,
     pub replacements: IdPairs,
     pub slots: Option<u16>,
+    /// Whether the multi-pack indices of the folders are used.
+    pub use_multi_pack_index: bool,
     /// The most bytes of an object.
     pub limit: Option<u64>,
     /// The most changes of the list of indices that a call tolerates.
@@ -71,6 +75,7 @@ fn nothing_chosen(alloc: Global) -> Chosen
         folders: PathList::new(alloc),
         replacements: IdPairs::new(alloc),
         slots: None,
+        use_multi_pack_index: true,
         limit: None,
         max_changes: DEFAULT_CHANGES,
         hash: Kind::Sha1,
@@ -88,6 +93,7 @@ fn with_choice(mut chosen: Chosen, choice: Choice) -> Result<Chosen, NoMemory>
         Choice::Slots(slots) => chosen.slots = Some(slots),
         Choice::Limit(bytes) => chosen.limit = Some(bytes),
         Choice::Changes(changes) => chosen.max_changes = changes,
+        Choice::NoMultiPackIndex => chosen.use_multi_pack_index = false,
         Choice::Sha256 => chosen.hash = Kind::Sha256,
     }
     Ok(chosen)
@@ -116,6 +122,7 @@ fn named_choice(alloc: Global, name: &str, value: &str) -> Result<Option<Choice>
         "slots" => Ok(slots(value)),
         "limit" => Ok(limit(value)),
         "changes" => Ok(changes(value)),
+        "midx" => Ok(midx(value)),
         "hash" => Ok(hash(value)),
         _ => Ok(None),
     }
@@ -152,6 +159,15 @@ fn changes(value: &str) -> Option<Choice>
         .map(Choice::Changes)
 }
 
+fn midx(value: &str) -> Option<Choice>
+    ensures choice { result ≡ midx_choice value.now }
+{
+    match value {
+        "no" => Some(Choice::NoMultiPackIndex),
+        _ => None,
+    }
+}
+
 fn hash(value: &str) -> Option<Choice>
     ensures choice { result ≡ hash_choice value.now }
 {
@@ -171,7 +187,7 @@ fn id_pair(value: &str) -> (Option<ObjectId>, Option<ObjectId>)
 }
 
 /// The name of an option and its value, which `=` separates.
-pub fn name_and_value(option: &str) -> Option<(&str, &str)>
+fn name_and_value(option: &str) -> Option<(&str, &str)>
     ensures found { is_some result ≡ has_value option.now }
     ensures name { IfSome result (λ parts. parts.0.now ≡ name_in option.now) }
     ensures value { IfSome result (λ parts. parts.1.now ≡ value_in option.now) }

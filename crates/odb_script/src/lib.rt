@@ -35,7 +35,6 @@ pub use expected::{Expected, expected_of, expected_of_change};
 pub use fault::{Fault, Mistake};
 pub use field::{data_of, handle_of, id_of, kind_of, path_of};
 pub use item::{Item, item_of};
-pub use opening::is_unbuilt_option;
 pub use part::{Part, part_at};
 pub use print::print_outcome;
 pub use reader::{Ending, Reading, SCRIPT_LIMIT, Script, Taken, read};

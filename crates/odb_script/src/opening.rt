@@ -1,10 +1,9 @@
 //! The opening of a store by its fields.
 ghost use Rattle.std.specs.Prelude.{◌≡◌, IfOk};
-ghost use Rattle.std.specs.List.{list_any};
 ghost use Rattle.odb_script.specs.Line.{texts_of};
-ghost use Rattle.odb_script.specs.Opening.{is_unbuilt_option, is_unbuilt, opening_at, open_with, open_of, slots_of};
+ghost use Rattle.odb_script.specs.Opening.{opening_at, open_with, open_of, slots_of};
 
-use crate::choice::{Chosen, chosen_by, name_and_value};
+use crate::choice::{Chosen, chosen_by};
 use crate::field::{handle_of, path_of};
 use crate::item::Item;
 use gix_odb_calls::{Line, Options, Slots, Step};
@@ -12,14 +11,11 @@ use odb_base::NoMemory;
 use odb_mem_disk::PathText;
 use std::alloc::Global;
 
-/// The opening of a store by its fields. One with an option that isn't built yet is checked by its options alone.
+/// The opening of a store by its fields.
 #[tactic(auto, unfolding(crate::specs::Opening::open_of))]
 pub fn open_of(alloc: Global, handle: &str, path: &str, options: &[&str]) -> Result<Item, NoMemory>
     ensures item { IfOk result (λ item. item ≡ open_of handle.now path.now (texts_of options.now)) }
 {
-    if is_unbuilt(options) {
-        return Ok(Item::NotBuilt);
-    }
     let path = path_of(alloc, path)?;
     let chosen = chosen_by(alloc, options)?;
     Ok(open_with(handle_of(handle), path, chosen))
@@ -42,6 +38,7 @@ fn opening_at(handle: u32, path: PathText, chosen: Chosen) -> Item
         folders,
         replacements,
         slots,
+        use_multi_pack_index,
         limit,
         max_changes,
         hash,
@@ -54,6 +51,7 @@ fn opening_at(handle: u32, path: PathText, chosen: Chosen) -> Item
         replacements,
         options: Options {
             slots: slots_of(slots),
+            use_multi_pack_index,
             alloc_limit_bytes: limit,
             max_changes,
         },
@@ -67,29 +65,5 @@ fn slots_of(slots: Option<u16>) -> Slots
     match slots {
         Some(slots) => Slots::Given(slots),
         None => Slots::default(),
-    }
-}
-
-/// Whether one of the options isn't built yet.
-#[tactic(auto, using(crate::proofs::OpeningLemmas::any_of_texts))]
-fn is_unbuilt(options: &[&str]) -> bool
-    ensures unbuilt { result ≡ is_unbuilt (texts_of options.now) }
-{
-    any_is_unbuilt(options)
-}
-
-fn any_is_unbuilt(options: &[&str]) -> bool
-    ensures unbuilt { result ≡ list_any (λ option. is_unbuilt_option option.now) options.now }
-{
-    options.iter().any(|option| is_unbuilt_option(option))
-}
-
-/// Whether an option of an opening isn't built yet.
-pub fn is_unbuilt_option(option: &str) -> bool
-    ensures unbuilt { result ≡ is_unbuilt_option option.now }
-{
-    match name_and_value(option) {
-        Some((name, _)) => name == "midx",
-        None => false,
     }
 }

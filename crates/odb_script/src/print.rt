@@ -2,13 +2,13 @@
 ghost use Rattle.std.specs.Prelude.{◌≡◌, ◌++◌, codes, OnOk};
 ghost use Rattle.std.specs.Fmt.{decimal};
 ghost use Rattle.gix_object.specs.Kind.{kind_word};
-ghost use Rattle.odb_script.specs.Print.{printed, reply_text, error_text, opening_text, find_text, labelled_load_index, load_index_text, loose_text, sizes_text, write_text, loose_write_text, header_text, yes_or_no, why_text, data_text};
+ghost use Rattle.odb_script.specs.Print.{printed, reply_text, error_text, opening_text, find_text, labelled_load_index, load_index_text, too_many_packs_text, loose_text, sizes_text, write_text, loose_write_text, header_text, yes_or_no, why_text, data_text};
 
 use gix_hash::ObjectId;
 use gix_object::Kind;
 use gix_odb_calls::{CallError, Outcome, Reply, Why, find, init, load_index, write};
 use gix_odb_loose as loose;
-use odb_base::NoMemory;
+use odb_base::{NoMemory, PathText};
 use odb_program::{labelled, number, text};
 use std::alloc::Global;
 
@@ -192,6 +192,11 @@ fn print_load_index_error(
             labelled(alloc, out, b" ", *needed as u64)
         }
         load_index::Error::GenerationOverflow => text(out, b"generation-overflow"),
+        load_index::Error::TooManyPacksInMultiIndex {
+            actual,
+            index_path,
+            ..
+        } => print_too_many_packs(alloc, out, *actual, index_path),
         load_index::Error::Unsettled { begun, own, now } => {
             labelled(alloc, out, b"unsettled ", *begun)?;
             labelled(alloc, out, b" ", *own)?;
@@ -199,6 +204,19 @@ fn print_load_index_error(
         }
         load_index::Error::NoMemory => text(out, b"no-memory"),
     }
+}
+
+fn print_too_many_packs(
+    alloc: Global,
+    out: &mut Vec<u8>,
+    actual: u32,
+    path: &PathText,
+) -> Result<(), NoMemory>
+    ensures ok { OnOk result (out.new.items ≡ out.old.items ++ too_many_packs_text actual path.now) }
+{
+    labelled(alloc, out, b"too-many-packs ", u64::from(actual))?;
+    text(out, b" ")?;
+    text(out, path.to_text(alloc)?.as_bytes())
 }
 
 fn print_loose_error(
