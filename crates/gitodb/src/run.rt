@@ -37,6 +37,8 @@ with `#` say nothing. See docs/SCRIPT.md for the whole language.
   clone NEW H                NEW is a further handle on the store of an idle
                              handle H
   close H                    closes an idle handle
+  never H                    an idle handle answers from the list of its store as
+                             it is from now on
   ignore H                   an idle handle ignores replacements from now on
   find H HEX                 begins to find an object
   header H HEX               begins to tell the kind and the size of an object
@@ -60,7 +62,7 @@ CONTENT is DATA, @loose:OBJ, @pack:OBJ,OBJ.., @idx:OBJ,OBJ.. or
 or tag; DATA is hex, or `-` for nothing. HEX has 40 lower-case digits, or 64 in
 a store that is opened with hash=sha256. Numbers are decimal.
 
-Known, and not built yet (status 8): ids, upgrade, never, prefix, locate, entry.
+Known, and not built yet (status 8): ids, upgrade, prefix, locate, entry.
 
 status  0 done   1 words not understood   2 a line was refused   3 read fault
         4 write fault   5 out of memory   8 a line has a word not built yet

@@ -30,6 +30,7 @@ use Rattle.gix_odb.specs.CallOrder.{Asks, ask_of, fed, is_for_writes, is_write_a
 use Rattle.gix_odb.specs.declared.ask.Ask.TheVariants as own
 use Rattle.gix_odb.specs.declared.call_state.CallStage.{CallStage}
 use Rattle.gix_odb.specs.declared.call_state.CallStage.TheVariants.{Looking, Refreshing, Refused, Writing}
+use Rattle.gix_odb.specs.declared.refresh_mode.RefreshMode.{RefreshMode}
 
 -- ---- a call with a reply asks nothing
 
@@ -129,12 +130,12 @@ behind-writes setting state [] writes = writes
 behind-writes setting state (exchange ∷ exchanges) writes =
     behind-writes setting (fed setting state exchange.answer) exchanges (fed-writes setting state exchange.answer writes)
 
-module _ (setting : Setting) (hash : HashKind) (view : View) (sought : Query → ObjectId) (exchanges : List Exchange) where
+module _ (setting : Setting) (hash : HashKind) (mode : RefreshMode) (view : View) (sought : Query → ObjectId) (exchanges : List Exchange) where
   -- a call that was started asks nothing exactly where it has its reply
-  pub a_done_call_asks_nothing : (call : Call) → (ask_of (behind setting (started setting hash view sought call) exchanges) ≡ None)
-      ↔ ((reply : Reply) × (result_of (behind setting (started setting hash view sought call) exchanges) ≡ Ok reply))
+  pub a_done_call_asks_nothing : (call : Call) → (ask_of (behind setting (started setting hash mode view sought call) exchanges) ≡ None)
+      ↔ ((reply : Reply) × (result_of (behind setting (started setting hash mode view sought call) exchanges) ≡ Ok reply))
   a_done_call_asks_nothing call = (
-    has_reply (behind setting (started setting hash view sought call) exchanges)
-        (behind-writes setting (started setting hash view sought call) exchanges (started-writes setting hash view sought call)),
-    λ done. a_call_with_a_reply_asks_nothing (behind setting (started setting hash view sought call) exchanges) done.0 done.1,
+    has_reply (behind setting (started setting hash mode view sought call) exchanges)
+        (behind-writes setting (started setting hash mode view sought call) exchanges (started-writes setting hash mode view sought call)),
+    λ done. a_call_with_a_reply_asks_nothing (behind setting (started setting hash mode view sought call) exchanges) done.0 done.1,
   )

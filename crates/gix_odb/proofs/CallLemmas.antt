@@ -32,6 +32,7 @@ use Rattle.gix_odb.specs.declared.refresh.RefreshStep.TheVariants as fronts
 use Rattle.gix_odb.specs.CallOrder.{fed, fronted, is_for_writes, is_write, is_write_at, is_written, looking, replied_by, result_of_write, started, writing, written_at, written_on, wrote_as}
 use Rattle.gix_odb.specs.declared.call_state.CallStage.{CallStage}
 use Rattle.gix_odb.specs.declared.call_state.CallStage.TheVariants.{Looking, Refreshing, Refused, Writing}
+use Rattle.gix_odb.specs.declared.refresh_mode.RefreshMode.{RefreshMode}
 use Rattle.gix_odb.specs.Store.{listed_for}
 
 -- ---- it stays a call that writes
@@ -70,18 +71,18 @@ fed_writes_by setting answer stage before next writes was feeds =
     ap is_for_writes feeds ∙ fed-writes setting before answer (ap is_for_writes was ∙ writes)
 
 -- so does a new call
-pub started-writes : (setting : Setting) (hash : HashKind) (view : View) (sought : Query → ObjectId) (call : Call)
-    → is_for_writes (started setting hash view sought call) ≡ true
-started-writes setting hash view sought call =
-    by_call-all (λ (state : CallStage). is_for_writes state ≡ true) (λ query. looking setting view sought query)
+pub started-writes : (setting : Setting) (hash : HashKind) (mode : RefreshMode) (view : View) (sought : Query → ObjectId) (call : Call)
+    → is_for_writes (started setting hash mode view sought call) ≡ true
+started-writes setting hash mode view sought call =
+    by_call-all (λ (state : CallStage). is_for_writes state ≡ true) (λ query. looking setting mode view sought query)
     (λ kind size bytes known. fronted (refreshes.started view) (writing setting.parts.objects hash kind size bytes known))
     (λ query. refl)
     (λ kind size bytes known. fronted-writes (refreshes.started view) (writing setting.parts.objects hash kind size bytes known) refl)
     call
 
-pub started_writes_by : (setting : Setting) (hash : HashKind) (view : View) (sought : Query → ObjectId) (call : Call) (stage : CallStage)
-    → stage ≡ started setting hash view sought call → is_for_writes stage ≡ true
-started_writes_by setting hash view sought call stage is = ap is_for_writes is ∙ started-writes setting hash view sought call
+pub started_writes_by : (setting : Setting) (hash : HashKind) (mode : RefreshMode) (view : View) (sought : Query → ObjectId) (call : Call) (stage : CallStage)
+    → stage ≡ started setting hash mode view sought call → is_for_writes stage ≡ true
+started_writes_by setting hash mode view sought call stage is = ap is_for_writes is ∙ started-writes setting hash mode view sought call
 
 -- ---- its reply is what it wrote
 

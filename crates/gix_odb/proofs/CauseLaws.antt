@@ -53,6 +53,7 @@ use Rattle.gix_odb.specs.declared.look_up.LookUp.{LookUp}
 use Rattle.gix_odb.specs.declared.look_up.Part.{Part}
 use Rattle.gix_odb.specs.declared.look_up.Part.TheVariants as parts
 use Rattle.gix_odb.specs.declared.look_up.Purpose.TheVariants as purposes
+use Rattle.gix_odb.specs.declared.refresh_mode.RefreshMode.{RefreshMode}
 use Rattle.gix_odb.specs.Shown.{IsShownView}
 use Rattle.gix_odb.proofs.FoundLaws.Behind.{IsOfPack, pack_refusal_caused}
 use Rattle.gix_odb.proofs.CauseLaws.Known.{Counts, HasBegun, IsListCaused, KnowsAt, ShowedPart}
@@ -83,12 +84,12 @@ behind-stands setting want id [] look stands = stands
 behind-stands setting want id (exchange ∷ exchanges) look stands =
     behind-stands setting want id exchanges (fed setting look exchange.answer) (fed-stands setting want id look exchange.answer stands)
 
-module _ (setting : Setting) (view : View) (want : Want) (id : ObjectId) (exchanges : List Exchange) where
+module _ (setting : Setting) (mode : RefreshMode) (view : View) (want : Want) (id : ObjectId) (exchanges : List Exchange) where
   abbrev look : LookUp
-  look = behind setting (started setting view want id) exchanges
+  look = behind setting (started setting mode view want id) exchanges
 
   stands_behind : StandsFor setting want id look
-  stands_behind = behind-stands setting want id exchanges (started setting view want id) (started-stands setting view want id)
+  stands_behind = behind-stands setting want id exchanges (started setting mode view want id) (started-stands setting mode view want id)
 
   -- the reply of a look-up is of what it wants
   pub replies_are_of_the_query : (reply : Reply) → result_of look ≡ Ok reply → IsReplyTo want reply
@@ -112,10 +113,10 @@ module _ (setting : Setting) (view : View) (want : Want) (id : ObjectId) (exchan
   -- an event that the core refuses ends the look-up with that refusal
   pub a_refused_event_ends_the_look_up : (event : Event) (refusal : Refusal)
       → IsLast exchanges (record { ask = asks.Core event; answer = told.Core (Err refusal) })
-      → AreAsked setting (started setting view want id) exchanges
+      → AreAsked setting (started setting mode view want id) exchanges
       → result_of look ≡ Ok (load_refused (of_refusal refusal))
   a_refused_event_ends_the_look_up event refusal last asked =
-      let start = started setting view want id in
+      let start = started setting mode view want id in
       subst (λ (l : List Exchange). AreAsked setting start l → result_of (behind setting start l) ≡ Ok (load_refused (of_refusal refusal))) (sym last.1)
       (refused_event_ends setting event refusal last.0 start) asked
 
@@ -246,12 +247,12 @@ module _ (Shown : Path → ℕ → List ℕ → Type 0) (setting : Setting) (has
       asked.1 numbered.1
       (λ other among. truth other (Contains-append_right (exchange ∷ []) exchanges other among)))
 
-  started-known : (view : View) → IsKnown [] (started setting view want id)
-  started-known view = record { stands = started-stands setting view want id; counts = record { begun = refl; own = refl }; knows = by view.read }
+  started-known : (mode : RefreshMode) (view : View) → IsKnown [] (started setting mode view want id)
+  started-known mode view = record { stands = started-stands setting mode view want id; counts = record { begun = refl; own = refl }; knows = by view.read }
     where
-      by : (b : Bool) → KnowsAt Shown setting hash id [] (new_head want id)
-          (if b then try_view setting (new_head want id) parts.Snapshot view [] without_notes else stages.Refreshing fronts.Reading (purposes.First true) without_notes)
-      by true = try_view-known Shown setting hash id [] (new_head want id) parts.Snapshot tt view [] without_notes (λ is. absurd (cc is))
+      by : (b : Bool) → KnowsAt Shown setting hash id [] (new_head mode want id)
+          (if b then try_view setting (new_head mode want id) parts.Snapshot view [] without_notes else stages.Refreshing fronts.Reading (purposes.First true) without_notes)
+      by true = try_view-known Shown setting hash id [] (new_head mode want id) parts.Snapshot tt view [] without_notes (λ is. absurd (cc is))
       by false = λ is. absurd (cc is)
 
   list_caused : (exchanges : List Exchange) (error : Error) → IsOfLists error → IsListCaused Shown setting hash id exchanges want error
@@ -262,15 +263,15 @@ module _ (Shown : Path → ℕ → List ℕ → Type 0) (setting : Setting) (has
   list_caused exchanges error of cause = absurd of
 
   -- a look-up that the loose objects of a folder or the lists of packs refuse has a cause in its exchanges
-  list_refusal_caused : (view : View) (exchanges : List Exchange) → AreAsked setting (started setting view want id) exchanges
+  list_refusal_caused : (mode : RefreshMode) (view : View) (exchanges : List Exchange) → AreAsked setting (started setting mode view want id) exchanges
       → AreTrue Shown setting hash exchanges → (slots number : ℕ) → AreNumbered slots number exchanges
       → (error : Error) → IsOfLists error
-      → result_of (behind setting (started setting view want id) exchanges) ≡ Ok (replies.Refused (call_errors.Find error))
+      → result_of (behind setting (started setting mode view want id) exchanges) ≡ Ok (replies.Refused (call_errors.Find error))
       → IsCaused Shown setting hash id want exchanges error
-  list_refusal_caused view exchanges asked truth slots number numbered error of is =
-      let look = behind setting (started setting view want id) exchanges in
+  list_refusal_caused mode view exchanges asked truth slots number numbered error of is =
+      let look = behind setting (started setting mode view want id) exchanges in
       let known =
-      behind-known slots number exchanges [] (started setting view want id) (started-known view) (started-owned setting view want id number)
+      behind-known slots number exchanges [] (started setting mode view want id) (started-known mode view) (started-owned setting mode view want id number)
       asked numbered truth in
       let done = done_with look.head look.stage (replies.Refused (call_errors.Find error)) is in
       list_caused exchanges error of
@@ -278,24 +279,24 @@ module _ (Shown : Path → ℕ → List ℕ → Type 0) (setting : Setting) (has
       (subst (KnowsAt Shown setting hash id exchanges look.head) done known.knows))
 
   -- each error that a look-up is refused by has its cause, in what was answered or shown
-  pub each_refusal_has_its_cause : kind_of id ≡ hash → (view : View) → IsShownView Shown setting hash view → (exchanges : List Exchange)
-      → AreAsked setting (started setting view want id) exchanges
+  pub each_refusal_has_its_cause : kind_of id ≡ hash → (mode : RefreshMode) (view : View) → IsShownView Shown setting hash view → (exchanges : List Exchange)
+      → AreAsked setting (started setting mode view want id) exchanges
       → AreTrue Shown setting hash exchanges → (slots number : ℕ) → AreNumbered slots number exchanges
-      → (error : Error) → result_of (behind setting (started setting view want id) exchanges) ≡ Ok (replies.Refused (call_errors.Find error))
+      → (error : Error) → result_of (behind setting (started setting mode view want id) exchanges) ≡ Ok (replies.Refused (call_errors.Find error))
       → IsCaused Shown setting hash id want exchanges error
-  each_refusal_has_its_cause same view shown exchanges asked truth slots number numbered error is = by error is
+  each_refusal_has_its_cause same mode view shown exchanges asked truth slots number numbered error is = by error is
     where
       of_list : (error : Error) → IsOfLists error
-          → result_of (behind setting (started setting view want id) exchanges) ≡ Ok (replies.Refused (call_errors.Find error))
+          → result_of (behind setting (started setting mode view want id) exchanges) ≡ Ok (replies.Refused (call_errors.Find error))
           → IsCaused Shown setting hash id want exchanges error
-      of_list error of is = list_refusal_caused view exchanges asked truth slots number numbered error of is
+      of_list error of is = list_refusal_caused mode view exchanges asked truth slots number numbered error of is
 
       of_pack : (error : Error) → IsOfPack error
-          → result_of (behind setting (started setting view want id) exchanges) ≡ Ok (replies.Refused (call_errors.Find error))
+          → result_of (behind setting (started setting mode view want id) exchanges) ≡ Ok (replies.Refused (call_errors.Find error))
           → IsCaused Shown setting hash id want exchanges error
-      of_pack error of is = pack_refusal_caused Shown setting hash want id same view shown exchanges asked truth error is of
+      of_pack error of is = pack_refusal_caused Shown setting hash want id same mode view shown exchanges asked truth error is of
 
-      by : (error : Error) → result_of (behind setting (started setting view want id) exchanges) ≡ Ok (replies.Refused (call_errors.Find error))
+      by : (error : Error) → result_of (behind setting (started setting mode view want id) exchanges) ≡ Ok (replies.Refused (call_errors.Find error))
           → IsCaused Shown setting hash id want exchanges error
       by (errors.Loose error) is = of_list (errors.Loose error) tt is
       by (errors.LoadIndex error) is = of_list (errors.LoadIndex error) tt is

@@ -39,19 +39,20 @@ use Rattle.gix_odb.specs.declared.look_up.LookHead.{LookHead}
 use Rattle.gix_odb.specs.declared.look_up.LookStage.TheVariants as stages
 use Rattle.gix_odb.specs.declared.look_up.LookStage.{LookStage}
 use Rattle.gix_odb.specs.declared.look_up.LookUp.{LookUp}
+use Rattle.gix_odb.specs.declared.refresh_mode.RefreshMode.{RefreshMode}
 use Rattle.gix_odb.proofs.FoundLaws.Behind.{done_known, look_known, stage_hands}
 
 module _ (Shown : Path → ℕ → List ℕ → Type 0) (setting : Setting) (hash : Kind) (want : Want) (id : ObjectId) (same : kind_of id ≡ hash)
-    (view : View) (shown : IsShownView Shown setting hash view) (exchanges : List Exchange)
-    (asked : AreAsked setting (started setting view want id) exchanges) (truth : AreTrue Shown setting hash exchanges) where
+    (mode : RefreshMode) (view : View) (shown : IsShownView Shown setting hash view) (exchanges : List Exchange)
+    (asked : AreAsked setting (started setting mode view want id) exchanges) (truth : AreTrue Shown setting hash exchanges) where
   abbrev look : LookUp
-  look = behind setting (started setting view want id) exchanges
+  look = behind setting (started setting mode view want id) exchanges
 
   -- A file that a look-up passes to the core was shown at its path. A listing that it publishes has only rows of indices of the folders, and of
   -- multi-pack indices that were shown there.
   pub what_is_handed_was_shown : (ask : Ask) → ask_of look ≡ Some ask → IsHandedBy Shown setting hash ask
   what_is_handed_was_shown ask is =
-      stage_hands Shown setting hash want id exchanges look.stage ask (look_known Shown setting hash want id same view shown exchanges asked truth).stage is
+      stage_hands Shown setting hash want id exchanges look.stage ask (look_known Shown setting hash want id same mode view shown exchanges asked truth).stage is
 
   -- an answer was found in a pack that was shown, or is what the loose objects of a folder said
   pub what_is_found_was_shown : (reply : Reply) → result_of look ≡ Ok reply → IsAnswer reply
@@ -59,4 +60,4 @@ module _ (Shown : Path → ℕ → List ℕ → Type 0) (setting : Setting) (has
       ⊎ ((folder : Path) × Contains (folders_of setting) folder × HasVerdict setting want id exchanges folder (verdicts.Ends reply))
   what_is_found_was_shown reply is answer =
       (done_known Shown setting hash want id exchanges look.head look.stage reply
-      (look_known Shown setting hash want id same view shown exchanges asked truth).stage is).found answer
+      (look_known Shown setting hash want id same mode view shown exchanges asked truth).stage is).found answer

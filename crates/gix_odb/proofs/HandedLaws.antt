@@ -39,6 +39,7 @@ use Rattle.gix_odb.specs.Shown.{folders_of}
 use Rattle.gix_odb.specs.declared.look_up.LookStage.TheVariants as stages
 use Rattle.gix_odb.specs.declared.look_up.LookStage.{LookStage}
 use Rattle.gix_odb.specs.declared.look_up.LookUp.{LookUp}
+use Rattle.gix_odb.specs.declared.refresh_mode.RefreshMode.{RefreshMode}
 use Rattle.gix_odb.proofs.ListerLaws.Apart.{ListerDiffers, StepDiffers, listing_differs, starts_apart}
 use Rattle.gix_odb.proofs.HandedLaws.Stages.{Goes, Stands, Steps, published, same_ask, stage_stands, start_stands}
 use Rattle.gix_odb.proofs.ListerLaws.Streams.{IsOpen, Told}
@@ -117,14 +118,14 @@ module _ (setting : Setting) (distinct : IsDistinct same_path (folders_of settin
       (seen look.head exchange.answer) look.stage exchange.answer (goes_differing look.stage exchange.answer here))
       exchanges
 
-  module _ (view : View) (want : Want) (id : ObjectId) (exchanges : List Exchange) (asked : AreAsked setting (started setting view want id) exchanges) where
+  module _ (mode : RefreshMode) (view : View) (want : Want) (id : ObjectId) (exchanges : List Exchange) (asked : AreAsked setting (started setting mode view want id) exchanges) where
     abbrev listing_look : LookUp
-    listing_look = behind setting (started setting view want id) exchanges
+    listing_look = behind setting (started setting mode view want id) exchanges
 
     differs : StageDiffers listing_look.stage
     differs =
-        differs_behind (started setting view want id)
-        (start_stands setting AnyCall (ListerDiffers (listed_for setting.parts)) RowsDiffer (Unit {0}) (λ want id folder. tt) starts_listing view want id tt)
+        differs_behind (started setting mode view want id)
+        (start_stands setting AnyCall (ListerDiffers (listed_for setting.parts)) RowsDiffer (Unit {0}) (λ want id folder. tt) starts_listing mode view want id tt)
         exchanges
 
     pub rows_of_a_listing_have_different_paths : (listing : Handed) → ask_of listing_look ≡ Some (asks.Core (events.Publish listing))
@@ -134,16 +135,16 @@ module _ (setting : Setting) (distinct : IsDistinct same_path (folders_of settin
 
 -- ---- they change no file, and their streams are their own
 
-module _ (setting : Setting) (view : View) (want : Want) (id : ObjectId) (exchanges : List Exchange)
-    (asked : AreAsked setting (started setting view want id) exchanges) where
+module _ (setting : Setting) (mode : RefreshMode) (view : View) (want : Want) (id : ObjectId) (exchanges : List Exchange)
+    (asked : AreAsked setting (started setting mode view want id) exchanges) where
   abbrev look : LookUp
-  look = behind setting (started setting view want id) exchanges
+  look = behind setting (started setting mode view want id) exchanges
 
   abbrev now : Told
   now = told_from none_told exchanges
 
   own : IsOwn setting now look.stage
-  own = streams_are_own setting view want id exchanges asked
+  own = streams_are_own setting mode view want id exchanges asked
 
   -- a call of the disk changes nothing in any tree
   pub look_ups_change_no_file : (ask : DiskAsk) → ask_of look ≡ Some (asks.Disk ask) → (tree : Tree) → change_of_ask tree ask ≡ None

@@ -21,6 +21,7 @@ use Rattle.gix_odb.specs.Shown.{IsShownView, folders_of}
 use Rattle.gix_odb.specs.True.{AreTrue}
 use Rattle.gix_odb.proofs.FoundLaws.{what_is_found_was_shown}
 use Rattle.gix_odb.specs.Hashed.{LooseHash, PacksHash}
+use Rattle.gix_odb.specs.declared.refresh_mode.RefreshMode.{RefreshMode}
 
 module _ (Shown : Path → ℕ → List ℕ → Type 0) (setting : Setting) (hash : Kind) (id : ObjectId) (same : kind_of id ≡ hash)
     (exchanges : List Exchange) (kind : object.Kind) (bytes : List ℕ) where
@@ -46,13 +47,13 @@ module _ (Shown : Path → ℕ → List ℕ → Type 0) (setting : Setting) (has
       loose folder among (folder_ask (asking setting.parts.alloc_limit_bytes Object id folder)) verdict.answer verdict.told kind bytes
       (given_object (found_by (loose_path folder id) setting.parts.alloc_limit_bytes verdict.answer) verdict.is)
 
-  module _ (view : View) (shown : IsShownView Shown setting hash view) (asked : AreAsked setting (started setting view Object id) exchanges)
+  module _ (mode : RefreshMode) (view : View) (shown : IsShownView Shown setting hash view) (asked : AreAsked setting (started setting mode view Object id) exchanges)
       (truth : AreTrue Shown setting hash exchanges) where
     -- Where the objects that it may meet hash to the id, what a look-up found has data that hash to it.
     pub found_data_hash_to_the_id : PacksHash setting hash id Shown → LooseHash setting hash id exchanges
-        → result_of (behind setting (started setting view Object id) exchanges) ≡ Ok (replies.Found kind bytes) → object_id hash kind bytes ≡ id
+        → result_of (behind setting (started setting mode view Object id) exchanges) ≡ Ok (replies.Found kind bytes) → object_id hash kind bytes ≡ id
     found_data_hash_to_the_id packs loose is =
-        elim (what_is_found_was_shown Shown setting hash Object id same view shown exchanges asked truth (replies.Found kind bytes) is tt) [
+        elim (what_is_found_was_shown Shown setting hash Object id same mode view shown exchanges asked truth (replies.Found kind bytes) is tt) [
           | inl found ↦ in_packs packs found
           | inr here ↦ in_folder loose here.0 here.1 here.2
         ]

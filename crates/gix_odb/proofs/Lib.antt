@@ -15,6 +15,7 @@ pub mod RefreshLaws
 pub mod AskLaws
 pub mod OpenLaws
 mod CallLemmas
+mod ModeLemmas
 mod HandleLemmas
 mod SlotsLemmas
 mod WriteLemmas
@@ -28,3 +29,4 @@ pub mod OnceLaws
 pub mod HashLaws
 pub mod ListingLaws
 pub mod MovedLaws
+pub mod PublishedLaws

@@ -36,6 +36,7 @@ use Rattle.gix_odb.specs.declared.refresh.Refresh.TheVariants as fronts
 use Rattle.gix_odb.specs.declared.look_up.LookStage.{LookStage}
 use Rattle.gix_odb.specs.declared.look_up.LookStage.TheVariants as stages
 use Rattle.gix_odb.specs.declared.look_up.LookUp.{LookUp}
+use Rattle.gix_odb.specs.declared.refresh_mode.RefreshMode.{RefreshMode}
 use Rattle.gix_odb.proofs.ListerLaws.Lists.{has_first, has_later}
 use Rattle.gix_odb.proofs.ListerLaws.Apart.{StepDiffers, listing_differs, starts_apart}
 use Rattle.gix_odb.proofs.HandedLaws.Stages.{Goes, Stands, Steps, published, stage_stands, start_stands}
@@ -210,10 +211,10 @@ module _ (setting : Setting) where
 
   -- ---- the laws
 
-  module _ (view : View) (want : Want) (id : ObjectId) (exchanges : List Exchange) (asked : AreAsked setting (started setting view want id) exchanges)
-      (listing : Listing) (is : ask_of (behind setting (started setting view want id) exchanges) ≡ Some (asks.Core (events.Publish listing))) where
+  module _ (mode : RefreshMode) (view : View) (want : Want) (id : ObjectId) (exchanges : List Exchange) (asked : AreAsked setting (started setting mode view want id) exchanges)
+      (listing : Listing) (is : ask_of (behind setting (started setting mode view want id) exchanges) ≡ Some (asks.Core (events.Publish listing))) where
     abbrev begun : LookUp
-    begun = started setting view want id
+    begun = started setting mode view want id
 
     -- Each row of a listing that is passed to the core has an index that was itself a file in one of the exchanges, and a pack path that
     -- showed a file in one; or it is that of a multi-pack index, which was read in one, with the row's content and time.
@@ -222,7 +223,7 @@ module _ (setting : Setting) where
         published setting AnyCall (OfLister exchanges) (OfRows exchanges) (Unit {0}) (behind setting begun exchanges).stage
         (seen_behind exchanges begun
         (start_stands setting AnyCall (OfLister exchanges) (OfRows exchanges) (Unit {0}) (λ want id folder. tt)
-        (λ base here. starts_seeing (Told exchanges) (listed_for setting.parts) setting.parts.objects base) view want id tt)
+        (λ base here. starts_seeing (Told exchanges) (listed_for setting.parts) setting.parts.objects base) mode view want id tt)
         exchanges asked (λ exchange among. among))
         listing is
 
@@ -232,6 +233,6 @@ module _ (setting : Setting) where
         let lists_so =
         listed_behind tree [] begun
         (start_stands setting AnyCall (IsAtLister tree []) (AreAll tree) (Unit {0}) (λ want id folder. tt)
-        (λ base here. starts_listing tree (listed_for setting.parts) setting.parts.objects base []) view want id tt)
+        (λ base here. starts_listing tree (listed_for setting.parts) setting.parts.objects base []) mode view want id tt)
         exchanges asked of in
         published setting AnyCall (IsAtLister tree lists_so.0) (AreAll tree) (Unit {0}) (behind setting begun exchanges).stage lists_so.1 listing is

@@ -1,11 +1,14 @@
--- What follows where a look-up found nothing: it missed no object that stayed unchanged in a pack, and it asked each folder.
+-- What follows where a look-up found nothing: it missed no object that stayed unchanged in a pack, while it worked or, where its handle never
+-- refreshes its list, since the store was opened; and it asked each folder.
 pub mod Lists
 pub mod Replies
 mod Trying
 mod Rows
 mod Carried
-mod Listing
+pub mod Listing
 pub mod Track
+mod Present
+mod Frozen
 pub mod Folders
 mod Failures
 use Rattle.std.proofs.Common.{◌≡◌, inl, inr, ℕ, List, [], ◌∷◌, Contains, Some, Ok, sym, ap, ◌∙◌, subst}
@@ -24,26 +27,41 @@ use Rattle.gix_odb.specs.LookExchanges.{AreAsked, Exchange, HasFailed, HasVerdic
 use Rattle.gix_odb.specs.Fair.{AreFair, IsCarried, PackedPlace}
 use Rattle.gix_odb.specs.LookUpOrder.{Setting, ask_of, fed, not_found, result_of, started}
 use Rattle.gix_odb.specs.Shown.{folders_of}
+use Rattle.gix_odb.specs.StillListed.{AreListed}
 use Rattle.gix_odb.specs.Store.{listed_for}
 use Rattle.gix_odb.specs.True.{AreTrue, IsTrue}
 use Rattle.gix_odb.specs.declared.look_up.LookStage.{LookStage}
 use Rattle.gix_odb.specs.declared.look_up.LookStage.TheVariants as stages
 use Rattle.gix_odb.specs.declared.look_up.LookUp.{LookUp}
+use Rattle.gix_odb.specs.declared.refresh_mode.RefreshMode.{RefreshMode}
+use Rattle.gix_odb.specs.declared.refresh_mode.RefreshMode.TheVariants.{AfterAllIndicesLoaded, Never}
 use Rattle.gix_odb_search.proofs.NotedLaws.{failed}
 use Rattle.gix_odb_search.proofs.ReachLemmas.{first_or_later, none_in}
 use Rattle.gix_odb.proofs.MissLaws.Failures.{CanFail, IsAskingAt, IsLookMarred, failure_mars, marred_is_no_miss, stays_marred}
 use Rattle.gix_odb.proofs.MissLaws.Folders.{IsLookPassing, IsPassing, look_passes_on, missed_at_end, passes_at_start}
+use Rattle.gix_odb.proofs.MissLaws.Frozen.{frozen_never_missed, frozen_starts}
 use Rattle.gix_odb.proofs.MissLaws.Lists.{first_in, later_in}
 use Rattle.gix_odb.proofs.MissLaws.Track.{never_missed, starts}
 
--- an object that stays unchanged in a pack while a look-up works, with fair answers, is not said to be missing
+-- an object that stays unchanged in a pack while a look-up of a handle that refreshes its list works, with fair answers, is not said to be missing
 pub nothing_still_in_packs_is_missed : (setting : Setting) (hash : Kind) (view : View) (want : Want) (id : ObjectId) (exchanges : List Exchange)
     → kind_of id ≡ hash → (place : PackedPlace) → IsCarried (listed_for setting.parts).multi place → Contains (folders_of setting) place.folder
-    → AreAsked setting (started setting view want id) exchanges → AreFair (listed_for setting.parts).multi hash id place [] exchanges
-    → ¬ (result_of (behind setting (started setting view want id) exchanges) ≡ Ok (not_found want))
+    → AreAsked setting (started setting AfterAllIndicesLoaded view want id) exchanges → AreFair (listed_for setting.parts).multi hash id place [] exchanges
+    → ¬ (result_of (behind setting (started setting AfterAllIndicesLoaded view want id) exchanges) ≡ Ok (not_found want))
 nothing_still_in_packs_is_missed setting hash view want id exchanges of_hash place carried among asked fair =
-    never_missed setting hash want id of_hash place carried among [] (started setting view want id)
+    never_missed setting hash want id of_hash place carried among [] (started setting AfterAllIndicesLoaded view want id)
     (starts setting hash want id of_hash place carried among view) exchanges asked fair
+
+-- an object that stayed unchanged in a pack since the store was opened is not said to be missing by a look-up of a handle that never refreshes its
+-- list: here each list that was published has a row of the object, in the place of the look-up's own listing
+pub nothing_still_since_the_opening_is_missed : (setting : Setting) (hash : Kind) (view : View) (want : Want) (id : ObjectId) (exchanges : List Exchange)
+    → kind_of id ≡ hash → (place : PackedPlace) → IsCarried (listed_for setting.parts).multi place → Contains (folders_of setting) place.folder
+    → AreAsked setting (started setting Never view want id) exchanges → AreFair (listed_for setting.parts).multi hash id place [] exchanges
+    → AreListed (listed_for setting.parts).multi hash id place exchanges
+    → ¬ (result_of (behind setting (started setting Never view want id) exchanges) ≡ Ok (not_found want))
+nothing_still_since_the_opening_is_missed setting hash view want id exchanges of_hash place carried among asked fair shows =
+    frozen_never_missed setting hash want id of_hash place carried among [] (started setting Never view want id)
+    (frozen_starts setting hash want id of_hash place carried among view) exchanges asked fair shows
 
 module _ (setting : Setting) (want : Want) (id : ObjectId) where
   -- ---- each folder was asked
@@ -68,13 +86,13 @@ module _ (setting : Setting) (want : Want) (id : ObjectId) where
     asking_at stage passing = tt
 
   -- A look-up that found nothing asked the loose objects of each folder, and missed there.
-  pub not_found_missed_in_each_folder : (view : View) (exchanges : List Exchange) → AreAsked setting (started setting view want id) exchanges
-      → result_of (behind setting (started setting view want id) exchanges) ≡ Ok (not_found want)
+  pub not_found_missed_in_each_folder : (mode : RefreshMode) (view : View) (exchanges : List Exchange) → AreAsked setting (started setting mode view want id) exchanges
+      → result_of (behind setting (started setting mode view want id) exchanges) ≡ Ok (not_found want)
       → (folder : Path) → Contains (folders_of setting) folder → HasVerdict setting want id exchanges folder verdicts.Misses
-  not_found_missed_in_each_folder view exchanges asked is =
-      let start = started setting view want id in
+  not_found_missed_in_each_folder mode view exchanges asked is =
+      let start = started setting mode view want id in
       let look = behind setting start exchanges in
-      let passing = folders_passed exchanges start (passes_at_start setting want id exchanges view) exchanges (λ exchange among. among) asked in
+      let passing = folders_passed exchanges start (passes_at_start setting want id exchanges mode view) exchanges (λ exchange among. among) asked in
       missed_at_end setting want id exchanges look.head look.stage passing.stage is
 
   -- ---- no call failed
@@ -116,11 +134,11 @@ module _ (setting : Setting) (want : Want) (id : ObjectId) where
           ]
 
     -- none of the calls of the disk of a look-up that found nothing failed
-    pub not_found_had_no_failure : (view : View) (exchanges : List Exchange) → AreAsked setting (started setting view want id) exchanges
+    pub not_found_had_no_failure : (mode : RefreshMode) (view : View) (exchanges : List Exchange) → AreAsked setting (started setting mode view want id) exchanges
         → AreTrue Shown setting hash exchanges
-        → result_of (behind setting (started setting view want id) exchanges) ≡ Ok (not_found want) → ¬ (HasFailed exchanges)
-    not_found_had_no_failure view exchanges asked truth is has =
-        let start = started setting view want id in
+        → result_of (behind setting (started setting mode view want id) exchanges) ≡ Ok (not_found want) → ¬ (HasFailed exchanges)
+    not_found_had_no_failure mode view exchanges asked truth is has =
+        let start = started setting mode view want id in
         let look = behind setting start exchanges in
-        let marred = failures_mar exchanges truth start (passes_at_start setting want id exchanges view) exchanges (λ exchange among. among) asked has in
+        let marred = failures_mar exchanges truth start (passes_at_start setting want id exchanges mode view) exchanges (λ exchange among. among) asked has in
         marred_is_no_miss setting want look.head look.stage marred.stage is

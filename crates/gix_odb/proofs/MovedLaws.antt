@@ -47,6 +47,7 @@ use Rattle.gix_odb.specs.RefreshOrder as refreshes
 use Rattle.gix_odb.specs.declared.refresh.Refresh.TheVariants as fronts
 use Rattle.gix_odb.specs.declared.refresh.RefreshStep.{RefreshStep}
 use Rattle.gix_odb.specs.declared.refresh.RefreshStep.TheVariants as steps
+use Rattle.gix_odb.specs.declared.refresh_mode.RefreshMode.TheVariants.{AfterAllIndicesLoaded}
 use Rattle.gix_odb.specs.declared.look_up.LookHead.{LookHead}
 use Rattle.gix_odb.specs.declared.look_up.LookStage.{LookStage}
 use Rattle.gix_odb.specs.declared.look_up.LookStage.TheVariants as stages
@@ -130,10 +131,11 @@ module _ (setting : Setting) (want : Want) (id : ObjectId) (folder : Path) (amon
   IsWaiting (stages.Checking list_no notes) = ⊥
   IsWaiting (stages.Done reply) = ¬ (IsMiss want reply)
 
-  -- the look-up wants this of this id
+  -- the look-up wants this of this id, and refreshes its list
   pub record IsFor (head : LookHead) : Type 0 where
     pub want_is : head.want ≡ want
     pub id_is : head.id ≡ id
+    pub refreshes : head.mode ≡ AfterAllIndicesLoaded
 
   module _ (head : LookHead) (own : IsFor head) where
     same_call : (asked : Path) → asking setting.parts.alloc_limit_bytes head.want head.id asked ≡ asking setting.parts.alloc_limit_bytes want id asked
@@ -255,7 +257,7 @@ module _ (setting : Setting) (want : Want) (id : ObjectId) (folder : Path) (amon
   own_step : (head : LookHead) → IsFor head → (purpose : Purpose) (notes : Notes) (step : RefreshStep) → IsFor (by_refresh setting head purpose notes step).head
   own_step head own purpose notes (steps.More refresh) = own
   own_step head own purpose notes (steps.Read view) = own
-  own_step head own purpose notes (steps.Current view true) = record { want_is = own.want_is; id_is = own.id_is }
+  own_step head own purpose notes (steps.Current view true) = record { want_is = own.want_is; id_is = own.id_is; refreshes = own.refreshes }
   own_step head own purpose notes (steps.Current view false) = own
   own_step head own purpose notes (steps.Outdated list_no) = own
   own_step head own purpose notes (steps.Refused error) = own
@@ -275,21 +277,21 @@ module _ (setting : Setting) (want : Want) (id : ObjectId) (folder : Path) (amon
       → IsLookWaiting (fed setting look exchange.answer)
   look_waits_on look waiting exchange is published fair =
       let head : LookHead = seen look.head exchange.answer in
-      let own : IsFor head = record { want_is = waiting.own.want_is; id_is = waiting.own.id_is } in
+      let own : IsFor head = record { want_is = waiting.own.want_is; id_is = waiting.own.id_is; refreshes = waiting.own.refreshes } in
       record {
         own = own_behind look.stage waiting.stage head own exchange.answer;
         stage = stage_waits head own look.stage waiting.stage exchange.ask exchange.answer is published fair;
       }
 
-  starts_waiting : (view : View) → IsLookWaiting (started setting view want id)
+  starts_waiting : (view : View) → IsLookWaiting (started setting AfterAllIndicesLoaded view want id)
   starts_waiting view = record { own = own; stage = by view.read }
     where
-      own : IsFor (new_head want id)
-      own = record { want_is = refl; id_is = refl }
+      own : IsFor (new_head AfterAllIndicesLoaded want id)
+      own = record { want_is = refl; id_is = refl; refreshes = refl }
 
       by : (b : Bool)
-          → IsWaiting (cond b (try_view setting (new_head want id) parts.Snapshot view [] without_notes) (stages.Refreshing fronts.Reading (purposes.First true) without_notes))
-      by true = view_waits (new_head want id) own parts.Snapshot tt view [] without_notes
+          → IsWaiting (cond b (try_view setting (new_head AfterAllIndicesLoaded want id) parts.Snapshot view [] without_notes) (stages.Refreshing fronts.Reading (purposes.First true) without_notes))
+      by true = view_waits (new_head AfterAllIndicesLoaded want id) own parts.Snapshot tt view [] without_notes
       by false = tt
 
   -- ---- no folder of packs is opened while it waits
@@ -316,10 +318,10 @@ module _ (setting : Setting) (want : Want) (id : ObjectId) (folder : Path) (amon
       (λ other is. published other (has_later exchange before other is)) (λ other is. loose other (has_later exchange before other is))
 
   -- As long as the loose objects of a folder are fair to the object, a look-up of a core that had published a list has no stream open.
-  pub no_stream_is_open_before_the_loose_folder_is_asked : (view : View) (before : List Exchange) → AreAsked setting (started setting view want id) before
+  pub no_stream_is_open_before_the_loose_folder_is_asked : (view : View) (before : List Exchange) → AreAsked setting (started setting AfterAllIndicesLoaded view want id) before
       → ArePublished before → AreLooseFair setting want id folder before → stream_in before ≡ None
   no_stream_is_open_before_the_loose_folder_is_asked view before asked published loose =
-      none_open (started setting view want id) (starts_waiting view) before asked published loose
+      none_open (started setting AfterAllIndicesLoaded view want id) (starts_waiting view) before asked published loose
 
 -- ---- the object moves
 
@@ -353,7 +355,7 @@ module _ (setting : Setting) (hash : Kind) (want : Want) (id : ObjectId) (of_has
   not_missed past look waiting [] after asked published loose fair =
       never_missed setting hash want id of_hash place carried among past look
       (record {
-        own = record { want_is = waiting.own.want_is; id_is = waiting.own.id_is };
+        own = record { want_is = waiting.own.want_is; id_is = waiting.own.id_is; refreshes = waiting.own.refreshes };
         stage = on_track (stream_in past) look.stage waiting.stage;
       })
       after asked (subst (λ (es : List Exchange). AreFair (listed_for setting.parts).multi hash id place es after) (append-nil past) fair)
@@ -364,10 +366,10 @@ module _ (setting : Setting) (hash : Kind) (want : Want) (id : ObjectId) (of_has
       before after asked.1 (λ other is. published other (has_later exchange before other is)) (λ other is. loose other (has_later exchange before other is))
       (subst (λ (es : List Exchange). AreFair (listed_for setting.parts).multi hash id place es after) (sym (append_assoc past (exchange ∷ []) before)) fair)
 
-  -- Let an object be loose in a folder up to an exchange, and stay unchanged in a pack of that folder from then on. A look-up isn't ended by "not
-  -- found", if the core of its store had published a list by then.
+  -- Let an object be loose in a folder up to an exchange, and stay unchanged in a pack of that folder from then on. A look-up of a handle that
+  -- refreshes its list isn't ended by "not found", if the core of its store had published a list by then.
   pub objects_that_move_into_packs_are_not_missed : (view : View) (before after : List Exchange)
-      → AreAsked setting (started setting view want id) (before ++ after) → ArePublished before → AreLooseFair setting want id place.folder before
-      → AreFair (listed_for setting.parts).multi hash id place before after → ¬ (result_of (behind setting (started setting view want id) (before ++ after)) ≡ Ok (not_found want))
+      → AreAsked setting (started setting AfterAllIndicesLoaded view want id) (before ++ after) → ArePublished before → AreLooseFair setting want id place.folder before
+      → AreFair (listed_for setting.parts).multi hash id place before after → ¬ (result_of (behind setting (started setting AfterAllIndicesLoaded view want id) (before ++ after)) ≡ Ok (not_found want))
   objects_that_move_into_packs_are_not_missed view before after asked published loose fair =
-      not_missed [] (started setting view want id) (starts_waiting setting want id place.folder among view) before after asked published loose fair
+      not_missed [] (started setting AfterAllIndicesLoaded view want id) (starts_waiting setting want id place.folder among view) before after asked published loose fair

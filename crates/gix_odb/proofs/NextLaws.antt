@@ -20,16 +20,17 @@ use Rattle.gix_odb.specs.LookUpOrder.{Setting, ask_of, started}
 use Rattle.gix_odb.specs.Shown.{IsIndexPath, IsShownView}
 use Rattle.gix_odb.specs.True.{AreTrue}
 use Rattle.gix_odb.specs.declared.look_up.LookUp.{LookUp}
+use Rattle.gix_odb.specs.declared.refresh_mode.RefreshMode.{RefreshMode}
 use Rattle.gix_odb.specs.Following.{ComesNext}
 use Rattle.gix_odb.specs.JustRead.{IsPackPath, read_of}
 use Rattle.gix_odb.proofs.LastExchange.{asked-within}
 use Rattle.gix_odb.proofs.ReadLaws.{index_that_was_read_is_stored_next, pack_that_was_read_is_stored_next}
 
 module _ (Shown : Path → ℕ → List ℕ → Type 0) (setting : Setting) (hash : Kind) (want : Want) (id : ObjectId) (same : kind_of id ≡ hash)
-    (view : View) (shown : IsShownView Shown setting hash view) (exchanges : List Exchange)
-    (asked : AreAsked setting (started setting view want id) exchanges) (truth : AreTrue Shown setting hash exchanges) where
+    (mode : RefreshMode) (view : View) (shown : IsShownView Shown setting hash view) (exchanges : List Exchange)
+    (asked : AreAsked setting (started setting mode view want id) exchanges) (truth : AreTrue Shown setting hash exchanges) where
   abbrev start : LookUp
-  start = started setting view want id
+  start = started setting mode view want id
 
   module _ (first next : Exchange) (comes : ComesNext exchanges first next) where
     abbrev so_far : List Exchange
@@ -54,7 +55,7 @@ module _ (Shown : Path → ℕ → List ℕ → Type 0) (setting : Setting) (has
         → (slot : ℕ) × (next.ask ≡ asks.Core (events.PutIndex slot path (record { kind = hash; bytes = bytes })))
     exchange_behind_a_read_stores_the_index index parsed =
         let put =
-        index_that_was_read_is_stored_next Shown setting hash want id same view shown (so_far first next comes) (within first next comes).0
+        index_that_was_read_is_stored_next Shown setting hash want id same mode view shown (so_far first next comes) (within first next comes).0
         (true_so_far first next comes) path bytes index parsed (record { time = time; last = (comes.past, refl) }) in
         (put.0, next_is first next comes (asks.Core (events.PutIndex put.0 path (record { kind = hash; bytes = bytes }))) put.1)
 
@@ -63,6 +64,6 @@ module _ (Shown : Path → ℕ → List ℕ → Type 0) (setting : Setting) (has
         → (pack : PackId) × (next.ask ≡ asks.Core (events.PutPack pack path (record { kind = hash; bytes = bytes })))
     exchange_behind_a_read_stores_the_pack pack parsed =
         let put =
-        pack_that_was_read_is_stored_next Shown setting hash want id same view shown (so_far first next comes) (within first next comes).0
+        pack_that_was_read_is_stored_next Shown setting hash want id same mode view shown (so_far first next comes) (within first next comes).0
         (true_so_far first next comes) path bytes pack parsed (record { time = time; last = (comes.past, refl) }) in
         (put.0, next_is first next comes (asks.Core (events.PutPack put.0 path (record { kind = hash; bytes = bytes }))) put.1)

@@ -38,6 +38,7 @@ use Rattle.gix_odb.specs.declared.look_up.Part.{Part}
 use Rattle.gix_odb.specs.declared.look_up.Part.TheVariants as parts
 use Rattle.gix_odb.specs.declared.look_up.Purpose.TheVariants as purposes
 use Rattle.gix_odb.specs.declared.refresh.Refresh.TheVariants as fronts
+use Rattle.gix_odb.specs.declared.refresh_mode.RefreshMode.{RefreshMode}
 use Rattle.gix_odb.proofs.MissLaws.Replies.{found_is_no_miss, refused_is_no_miss}
 use Rattle.gix_odb.specs.AtHand.{HasId, HasPacks, IsAtHand, IsDone, IsPackLoaded, SaysYes, place_for}
 
@@ -165,22 +166,22 @@ module _ (setting : Setting) where
   done Presence head part (ends.Missed notes) over = absurd over
   done Presence head part (ends.Broken refusal) over = absurd over
 
-  needs : (want : Want) (id : ObjectId) (view : View) → HasPacks want id view → All (NeedsIfHas (goal_of setting (new_head want id))) view.snapshot.indices
-  needs Object id view packs = packs
-  needs Header id view packs = packs
-  needs Presence id view packs =
+  needs : (mode : RefreshMode) (want : Want) (id : ObjectId) (view : View) → HasPacks want id view → All (NeedsIfHas (goal_of setting (new_head mode want id))) view.snapshot.indices
+  needs mode Object id view packs = packs
+  needs mode Header id view packs = packs
+  needs mode Presence id view packs =
       let indices = view.snapshot.indices in
-      All-weaker (Contains indices) (NeedsIfHas (goal_of setting (new_head Presence id))) (λ index among place is. tt) indices
+      All-weaker (Contains indices) (NeedsIfHas (goal_of setting (new_head mode Presence id))) (λ index among place is. tt) indices
       (All-contains_itself indices)
 
   -- A look-up whose snapshot has an index with the id, and has loaded the pack that each such index names for it, is done as it starts and
   -- asks nothing. For a test an index with the id is enough.
-  pub object_at_hand_is_found_at_once : (want : Want) (id : ObjectId) (view : View) → IsAtHand want id view → IsDone want (started setting view want id)
-  object_at_hand_is_found_at_once want id view hand =
-      let head : LookHead = new_head want id in
+  pub object_at_hand_is_found_at_once : (mode : RefreshMode) (want : Want) (id : ObjectId) (view : View) → IsAtHand want id view → IsDone want (started setting mode view want id)
+  object_at_hand_is_found_at_once mode want id view hand =
+      let head : LookHead = new_head mode want id in
       let goal : Goal = goal_of setting head in
       let indices = view.snapshot.indices in
       let left : Ahead = record { indices = rest_behind goal [] indices; todo = []; notes = without_notes } in
       subst (λ (b : Bool). IsDone want (at head (cond b (try_view setting head parts.Snapshot view [] without_notes) (stages.Refreshing fronts.Reading (purposes.First true) without_notes))))
       (sym hand.read)
-      (done want head parts.Snapshot (seeks goal left indices) (search_ends goal left indices (needs want id view hand.packs) hand.index hand.among hand.has))
+      (done want head parts.Snapshot (seeks goal left indices) (search_ends goal left indices (needs mode want id view hand.packs) hand.index hand.among hand.has))

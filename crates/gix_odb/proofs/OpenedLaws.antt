@@ -26,6 +26,7 @@ use Rattle.gix_odb.specs.declared.look_up.LookStage.{LookStage}
 use Rattle.gix_odb.specs.declared.look_up.LookStage.TheVariants as stages
 use Rattle.gix_odb.proofs.ListerLaws.Folders.{IsFolderOfPacks, lister_opens_there}
 use Rattle.gix_odb.specs.declared.refresh.Refresh.TheVariants as fronts
+use Rattle.gix_odb.specs.declared.refresh_mode.RefreshMode.{RefreshMode}
 use Rattle.gix_odb.proofs.FoundLaws.Behind.{look_known}
 use Rattle.gix_odb.proofs.ListerLaws.Known.{KnowsListHead}
 use Rattle.gix_odb.proofs.FoundLaws.Known.{KnowsLookStage}
@@ -62,10 +63,10 @@ module _ (setting : Setting) (path : Path) where
 
 -- a directory that a look-up opens is the folder of packs of one of the folders
 pub look_ups_open_folders_of_packs : (Shown : Path → ℕ → List ℕ → Type 0) (setting : Setting) (hash : Kind) (want : Want) (id : ObjectId) → kind_of id ≡ hash
-    → (view : View) → IsShownView Shown setting hash view → (exchanges : List Exchange) → AreAsked setting (started setting view want id) exchanges
+    → (mode : RefreshMode) (view : View) → IsShownView Shown setting hash view → (exchanges : List Exchange) → AreAsked setting (started setting mode view want id) exchanges
     → AreTrue Shown setting hash exchanges → (path : Path)
-    → ask_of (behind setting (started setting view want id) exchanges) ≡ Some (asks.Disk (disk_asks.OpenDir path))
+    → ask_of (behind setting (started setting mode view want id) exchanges) ≡ Some (asks.Disk (disk_asks.OpenDir path))
     → IsFolderOfPacks setting path
-look_ups_open_folders_of_packs Shown setting hash want id same view shown exchanges asked truth path is =
-    opens_by setting path Shown hash want id exchanges (behind setting (started setting view want id) exchanges).stage
-    (look_known Shown setting hash want id same view shown exchanges asked truth).stage is
+look_ups_open_folders_of_packs Shown setting hash want id same mode view shown exchanges asked truth path is =
+    opens_by setting path Shown hash want id exchanges (behind setting (started setting mode view want id) exchanges).stage
+    (look_known Shown setting hash want id same mode view shown exchanges asked truth).stage is

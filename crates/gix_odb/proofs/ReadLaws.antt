@@ -53,6 +53,7 @@ use Rattle.gix_odb.specs.declared.look_up.LookStage.{LookStage}
 use Rattle.gix_odb.specs.declared.look_up.LookStage.TheVariants as stages
 use Rattle.gix_odb.specs.declared.look_up.LookUp.{LookUp}
 use Rattle.gix_odb.specs.declared.look_up.Part.{Part}
+use Rattle.gix_odb.specs.declared.refresh_mode.RefreshMode.{RefreshMode}
 use Rattle.gix_odb.proofs.FoundLaws.Behind.{look_known}
 use Rattle.gix_odb.proofs.FoundLaws.Known.{KnowsLook, KnowsLookStage, KnowsLoose, KnowsStage, KnowsTrier}
 use Rattle.gix_odb.proofs.HandedLaws.Stages.{same_ask}
@@ -235,9 +236,9 @@ module _ (Shown : Path → ℕ → List ℕ → Type 0) (setting : Setting) (has
 
   -- ---- the laws
 
-  module _ (view : View) (shown : IsShownView Shown setting hash view) where
+  module _ (mode : RefreshMode) (view : View) (shown : IsShownView Shown setting hash view) where
     abbrev start : LookUp
-    start = started setting view want id
+    start = started setting mode view want id
 
     module _ (past : List Exchange) (last : Exchange) (asked : AreAsked setting start (past ++ last ∷ [])) (truth : AreTrue Shown setting hash (past ++ last ∷ [])) where
       abbrev before : LookUp
@@ -245,7 +246,7 @@ module _ (Shown : Path → ℕ → List ℕ → Type 0) (setting : Setting) (has
 
       known_before : KnowsLook Shown setting hash id past want before
       known_before =
-          look_known Shown setting hash want id same view shown past (asked-push setting start past last asked).0 (true_before Shown setting hash past last truth)
+          look_known Shown setting hash want id same mode view shown past (asked-push setting start past last asked).0 (true_before Shown setting hash past last truth)
 
       is_asked : ask_of before ≡ Some last.ask
       is_asked = (asked-push setting start past last asked).1
@@ -311,7 +312,7 @@ module _ (Shown : Path → ℕ → List ℕ → Type 0) (setting : Setting) (has
           elim (none_or_cut exchanges) [
             | inl none ↦
                 subst (λ (es : List Exchange). OfStage (IsRead (Read exchanges) hash) (behind setting start es).stage) none
-                (start_has (IsRead (Read exchanges) hash) setting (seek_goes (Read exchanges) hash) view want id)
+                (start_has (IsRead (Read exchanges) hash) setting (seek_goes (Read exchanges) hash) mode view want id)
             | inr cut ↦ cut_reads cut
           ]
 

@@ -19,7 +19,7 @@ use Rattle.gix_odb_calls.specs.declared.load_index.Error.TheVariants as load_err
 use Rattle.gix_object.specs.declared.want.Want.{Want}
 use Rattle.gix_odb_calls.specs.declared.verdict.Verdict.{Verdict}
 use Rattle.gix_odb_calls.specs.declared.verdict.Verdict.TheVariants as verdicts
-use Rattle.gix_odb.specs.LookUpOrder.{Setting, after_list, after_loose, at_folder, by_checked, by_read, by_refresh, by_tried}
+use Rattle.gix_odb.specs.LookUpOrder.{Setting, after_core_list, after_list, after_loose, at_folder, by_checked, by_read, by_refresh, by_tried}
 use Rattle.gix_odb.specs.LookUpOrder.{by_verdict, counted, ended, fed_at, goal_of, is_unsettled}
 use Rattle.gix_odb.specs.LookUpOrder.{listing_from, load_refused, own_by}
 use Rattle.gix_odb.specs.LookUpOrder.{new_head, not_found, started, trier_fed, try_view, unsettled, view_shown, without_absent, without_notes}
@@ -35,6 +35,8 @@ use Rattle.gix_odb.specs.declared.look_up.Part.{Part}
 use Rattle.gix_odb.specs.declared.look_up.Part.TheVariants as parts
 use Rattle.gix_odb.specs.declared.look_up.Purpose.{Purpose}
 use Rattle.gix_odb.specs.declared.look_up.Purpose.TheVariants as purposes
+use Rattle.gix_odb.specs.declared.refresh_mode.RefreshMode.{RefreshMode}
+use Rattle.gix_odb.proofs.ModeLemmas.{by_mode-all}
 use Rattle.gix_odb.specs.Store.{listed_for}
 
 module _ (OfTrier : Trier → Type 0) where
@@ -58,10 +60,17 @@ module _ (OfTrier : Trier → Type 0) where
 
     -- ---- a list is tried
 
+    of_ended : (want : Want) (notes : Notes) → OfStage (ended want notes)
+    of_ended want notes = chosen notes.failed (stages.Done (load_refused load_errors.Io)) (stages.Done (not_found want)) tt tt
+
+    of_core_list : (head : LookHead) (list_no : ℕ) (notes : Notes) → OfStage (after_core_list setting head list_no notes)
+    of_core_list head list_no notes =
+        by_mode-all OfStage (ended head.want notes) (listing_from setting list_no notes) head.mode (of_ended head.want notes) tt
+
     of_after_list : (head : LookHead) (part : Part) (notes : Notes) → OfStage (after_list setting head part notes)
     of_after_list head parts.Snapshot notes = tt
     of_after_list head (parts.List list_no true) notes = tt
-    of_after_list head (parts.List list_no false) notes = tt
+    of_after_list head (parts.List list_no false) notes = of_core_list head list_no notes
     of_after_list head (parts.Published list_no) notes = tt
 
     of_tried : (head : LookHead) (part : Part) (end : Tried) → OfTried end → OfStage (by_tried setting head part end)
@@ -78,13 +87,14 @@ module _ (OfTrier : Trier → Type 0) where
 
     -- ---- the loose folders
 
-    of_after_loose : (part : Part) (notes : Notes) → OfStage (after_loose setting part notes)
-    of_after_loose parts.Snapshot notes = tt
-    of_after_loose (parts.List list_no loose) notes = tt
-    of_after_loose (parts.Published list_no) notes = tt
+    of_after_loose : (head : LookHead) (part : Part) (notes : Notes) → OfStage (after_loose setting head part notes)
+    of_after_loose head parts.Snapshot notes = tt
+    of_after_loose head (parts.List list_no loose) notes = of_core_list head list_no notes
+    of_after_loose head (parts.Published list_no) notes =
+        by_mode-all OfStage (ended head.want notes) (stages.Checking list_no notes) head.mode (of_ended head.want notes) tt
 
     of_folder : (head : LookHead) (round : LooseRound) (next : Option Path) → OfStage (at_folder setting head round next)
-    of_folder head round None = of_after_loose round.part round.notes
+    of_folder head round None = of_after_loose head round.part round.notes
     of_folder head round (Some folder) = tt
 
     of_verdict : (head : LookHead) (round : LooseRound) (verdict : Verdict) → OfStage (by_verdict setting head round verdict)
@@ -102,12 +112,13 @@ module _ (OfTrier : Trier → Type 0) where
     of_checked head list_no notes None = tt
     of_checked head list_no notes (Some view) =
         chosen (view.list_no == list_no) (ended head.want notes) (counted setting head view.list_no (listing_from setting view.list_no notes))
-        (chosen notes.failed (stages.Done (load_refused load_errors.Io)) (stages.Done (not_found head.want)) tt tt)
+        (of_ended head.want notes)
         (of_counted head view.list_no (listing_from setting view.list_no notes) tt)
 
     of_read : (head : LookHead) (purpose : Purpose) (view : View) (notes : Notes) → OfStage (by_read setting head purpose view notes)
     of_read head (purposes.First loose) view notes = of_view head (parts.List view.list_no loose) view view.todo notes
-    of_read head purposes.Again view notes = tt
+    of_read head purposes.Again view notes =
+        by_mode-all OfStage (stages.Refreshing fronts.Reading (purposes.First true) notes) (listing_from setting view.list_no notes) head.mode tt tt
 
     of_refresh : (head : LookHead) (purpose : Purpose) (notes : Notes) (step : RefreshStep) → OfStage (by_refresh setting head purpose notes step).stage
     of_refresh head purpose notes (steps.More refresh) = tt
@@ -131,7 +142,7 @@ module _ (OfTrier : Trier → Type 0) where
     stage_goes head (stages.Done reply) answer here = tt
 
     -- a new look-up
-    pub start_has : (view : View) (want : Want) (id : ObjectId) → OfStage (started setting view want id).stage
-    start_has view want id =
-        chosen view.read (try_view setting (new_head want id) parts.Snapshot view [] without_notes) (stages.Refreshing fronts.Reading (purposes.First true) without_notes)
-        (of_view (new_head want id) parts.Snapshot view [] without_notes) tt
+    pub start_has : (mode : RefreshMode) (view : View) (want : Want) (id : ObjectId) → OfStage (started setting mode view want id).stage
+    start_has mode view want id =
+        chosen view.read (try_view setting (new_head mode want id) parts.Snapshot view [] without_notes) (stages.Refreshing fronts.Reading (purposes.First true) without_notes)
+        (of_view (new_head mode want id) parts.Snapshot view [] without_notes) tt

@@ -5,7 +5,7 @@ mod TurnsLeft
 mod PartTurns
 mod CoreTurns
 mod LookTurns
-use Rattle.std.proofs.Common.{◌≡◌, ℕ, zero, suc, ◌+◌, ◌-◌, ◌*◌, ◌≤◌, ◌<◌, Bool, true, false, cond, List, [], ◌∷◌, length, Option, Some, None, Ok, refl, subst, arith}
+use Rattle.std.proofs.Common.{inl, ◌≡◌, ℕ, zero, suc, ◌+◌, ◌-◌, ◌*◌, ◌≤◌, ◌<◌, Bool, true, false, cond, List, [], ◌∷◌, length, Option, Some, None, Ok, refl, subst, arith}
 use Rattle.gix_hash.specs.declared.object_id.ObjectId.{ObjectId}
 use Rattle.gix_odb_events.specs.declared.view.View.{View}
 use Rattle.gix_odb_events.specs.declared.answer.Answer.{Answer}
@@ -24,6 +24,7 @@ use Rattle.gix_odb.specs.declared.look_up.LookStage.TheVariants as stages
 use Rattle.gix_odb.specs.declared.look_up.LookUp.{LookUp}
 use Rattle.gix_odb.specs.declared.look_up.Part.TheVariants as parts
 use Rattle.gix_odb.specs.declared.look_up.Purpose.TheVariants as purposes
+use Rattle.gix_odb.specs.declared.refresh_mode.RefreshMode.{RefreshMode}
 use Rattle.gix_odb.proofs.TurnLaws.TurnsLeft.{Bounds, HasLeft, HasLeft-pos, LookHasLeft, settling_turns}
 use Rattle.gix_odb.proofs.ListerLaws.Turns.{folder_turns, further}
 use Rattle.gix_odb.proofs.TurnLaws.LookTurns.{IsTold, stream_behind, fed_left}
@@ -69,19 +70,19 @@ module _ (bounds : Bounds) where
       in
       omega (arith, rest)
 
-  started_left : (view : View) (want : Want) (id : ObjectId) (read : Bool) → length view.snapshot.indices ≤ bounds.slots
+  started_left : (mode : RefreshMode) (view : View) (want : Want) (id : ObjectId) (read : Bool) → length view.snapshot.indices ≤ bounds.slots
       → 8 * bounds.slots + 2 * length bounds.setting.parts.folders + 3 ≤ bounds.lap
-      → HasLeft bounds (new_head want id)
-      (cond read (try_view bounds.setting (new_head want id) parts.Snapshot view [] without_notes) (stages.Refreshing fronts.Reading (purposes.First true) without_notes))
+      → HasLeft bounds (new_head mode want id)
+      (cond read (try_view bounds.setting (new_head mode want id) parts.Snapshot view [] without_notes) (stages.Refreshing fronts.Reading (purposes.First true) without_notes))
       0 None ((bounds.setting.most + 2) * bounds.lap)
-  started_left view want id true few enough =
-      view_left bounds (new_head want id) parts.Snapshot 0 None ((bounds.setting.most + 2) * bounds.lap) view [] without_notes (omega arith)
+  started_left mode view want id true few enough =
+      view_left bounds (new_head mode want id) parts.Snapshot 0 None ((bounds.setting.most + 2) * bounds.lap) view [] without_notes (omega arith)
       (record { own = refl; begun = omega arith; enough = omega arith })
-  started_left view want id false few enough = record { own = refl; begun = omega arith; enough = omega arith }
+  started_left mode view want id false few enough = inl (record { own = refl; begun = omega arith; enough = omega arith })
 
--- a lap has room for a listing and what follows it
+-- a lap has room for a listing and what follows it, and for one turn more
 lap_is_wide : (slots folders entries : ℕ)
-    → (3 * entries + 3) + (folders - 0) * (3 * entries + 3) + (4 * slots + folders + 3) ≤ turns_of_lap slots (suc folders) entries
+    → (3 * entries + 3) + (folders - 0) * (3 * entries + 3) + (4 * slots + folders + 3) + 1 ≤ turns_of_lap slots (suc folders) entries
 lap_is_wide slots folders entries =
     let whole : folders - 0 ≡ folders = omega arith in
     rw whole (omega arith)
@@ -90,15 +91,15 @@ lap_is_wide slots folders entries =
 lists_are_within : (slots folders entries : ℕ) → 8 * slots + 2 * folders + 3 ≤ turns_of_lap slots (suc folders) entries
 lists_are_within slots folders entries = omega arith
 
-pub a_look_up_ends_in_time : (setting : Setting) (view : View) (want : Want) (id : ObjectId) (exchanges : List Exchange) (slots entries : ℕ)
+pub a_look_up_ends_in_time : (setting : Setting) (mode : RefreshMode) (view : View) (want : Want) (id : ObjectId) (exchanges : List Exchange) (slots entries : ℕ)
     → length view.snapshot.indices ≤ slots
-    → AreAsked setting (started setting view want id) exchanges
+    → AreAsked setting (started setting mode view want id) exchanges
     → AreNumbered slots 0 exchanges
     → AreWithin entries None exchanges
     → AreAnswered exchanges
-    → ((reply : Reply) → ¬ (result_of (behind setting (started setting view want id) exchanges) ≡ Ok reply))
+    → ((reply : Reply) → ¬ (result_of (behind setting (started setting mode view want id) exchanges) ≡ Ok reply))
     → length exchanges < turns_of_look slots (length (folders_of setting)) setting.most entries
-a_look_up_ends_in_time setting view want id exchanges slots entries few asked numbered within answered on =
+a_look_up_ends_in_time setting mode view want id exchanges slots entries few asked numbered within answered on =
     let bounds : Bounds =
     record {
       setting = setting;
@@ -108,5 +109,5 @@ a_look_up_ends_in_time setting view want id exchanges slots entries few asked nu
       wide = lap_is_wide slots (length setting.parts.folders) entries;
     }
     in
-    turns_left bounds (started setting view want id) 0 None ((setting.most + 2) * bounds.lap) exchanges
-    (started_left bounds view want id view.read few (lists_are_within slots (length setting.parts.folders) entries)) asked numbered within answered on
+    turns_left bounds (started setting mode view want id) 0 None ((setting.most + 2) * bounds.lap) exchanges
+    (started_left bounds mode view want id view.read few (lists_are_within slots (length setting.parts.folders) entries)) asked numbered within answered on

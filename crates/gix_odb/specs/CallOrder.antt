@@ -33,6 +33,7 @@ use Rattle.gix_odb.specs.LookUpOrder.{Setting}
 use Rattle.gix_odb.specs.RefreshOrder as refreshes
 use Rattle.gix_odb.specs.declared.refresh.RefreshStep.{RefreshStep}
 use Rattle.gix_odb.specs.declared.refresh.RefreshStep.TheVariants as fronts
+use Rattle.gix_odb.specs.declared.refresh_mode.RefreshMode.{RefreshMode}
 use Rattle.gix_odb_events.specs.declared.view.View.{View}
 use Rattle.gix_odb_events.specs.declared.answer.Answer.{Answer}
 use Rattle.gix_odb_events.specs.declared.answer.Answer.TheVariants as told
@@ -110,8 +111,8 @@ abbrev pub IsOfHash : HashKind → Call → Type 0
 IsOfHash hash call = is_of_hash hash call ≡ true
 
 -- a new query from a snapshot, where `sought` tells the id that is sought
-abbrev pub looking : Setting → View → (sought : Query → ObjectId) → Query → CallStage
-looking setting view sought query = Looking (looks.started setting view query.want (sought query))
+abbrev pub looking : Setting → RefreshMode → View → (sought : Query → ObjectId) → Query → CallStage
+looking setting mode view sought query = Looking (looks.started setting mode view query.want (sought query))
 
 -- A write and the refresh before it. It begins where the core has a list that was read, also where the listing came too late: another list
 -- was read then.
@@ -123,10 +124,10 @@ fronted (fronts.Outdated list_no) write = Writing write
 fronted (fronts.Refused error) write = Refused error
 
 -- a new call in a store of a hash
-abbrev pub started : Setting → HashKind → View → (sought : Query → ObjectId) → Call → CallStage
-started setting hash view sought call =
+abbrev pub started : Setting → HashKind → RefreshMode → View → (sought : Query → ObjectId) → Call → CallStage
+started setting hash mode view sought call =
     by_call
-    (λ query. looking setting view sought query)
+    (λ query. looking setting mode view sought query)
     (λ kind size bytes known. fronted (refreshes.started view) (writing setting.parts.objects hash kind size bytes known))
     call
 

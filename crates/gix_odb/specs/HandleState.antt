@@ -41,6 +41,7 @@ told_by handle answer = seeing handle (view_of answer)
 -- handles that are alike: of one store, in one mode, with one snapshot
 pub record IsAlike (one other : HandleState) : Type 0 where
   pub info : one.info.value ≡ other.info.value
+  pub refresh : one.refresh ≡ other.refresh
   pub ignoring : one.ignore_replacements ≡ other.ignore_replacements
   pub changes : one.max_changes ≡ other.max_changes
   pub view : one.view ≡ other.view

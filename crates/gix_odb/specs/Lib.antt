@@ -1,5 +1,6 @@
 -- What a look-up has as it starts, what it read last, one exchange after another, the listed files of a tree, the calls of a listing, an object
 -- that moves, and objects that hash to an id.
+pub mod RefreshMode
 pub mod LookUpOrder
 pub mod LookExchanges
 pub mod Found
@@ -7,6 +8,7 @@ pub mod Caused
 pub mod Reply
 pub mod OpenStream
 pub mod Fair
+pub mod StillListed
 pub mod Laps
 pub mod True
 pub mod Store

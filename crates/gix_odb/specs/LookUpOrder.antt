@@ -1,6 +1,6 @@
 -- The order of work of a look-up: the handle's snapshot, the loose folders, the list of the store's core, and listings of the folders
--- of packs until the list that was tried is the newest one. Multi-pack indices, handles that never refresh their list, and the
--- locations of objects are left out.
+-- of packs until the list that was tried is the newest one. A handle that never refreshes its list lists the folders only where the core's
+-- list was never read, and is at the end once a list was tried. The locations of objects are left out.
 pub mod Replies
 pub mod Store
 pub mod Listing
@@ -25,6 +25,7 @@ use Rattle.gix_odb.specs.declared.look_up.LookHead.{LookHead}
 use Rattle.gix_odb.specs.declared.look_up.LookStage.{LookStage}
 use Rattle.gix_odb.specs.declared.look_up.LookStage.TheVariants as stages
 use Rattle.gix_odb.specs.declared.look_up.LookUp.{LookUp}
+use Rattle.gix_odb.specs.declared.refresh_mode.RefreshMode.{RefreshMode}
 use Rattle.gix_odb.specs.declared.look_up.Part.TheVariants as parts
 use Rattle.gix_odb.specs.declared.look_up.Purpose.TheVariants as purposes
 use Rattle.gix_odb_calls.specs.Verdict.{folder_ask, folder_verdict}
@@ -33,25 +34,25 @@ use Rattle.gix_odb_search.specs.declared.search.Notes.{Notes}
 use Rattle.odb_base.specs.Path.{Path}
 pub use Rattle.gix_odb.specs.LookUpOrder.Replies.{load_refused, find_error, reply_found, not_found, ended}
 pub use Rattle.gix_odb.specs.LookUpOrder.Store.{Setting, setting_of}
-pub use Rattle.gix_odb.specs.LookUpOrder.Listing.{listing_from}
+pub use Rattle.gix_odb.specs.LookUpOrder.Listing.{after_core_list, listing_from}
 pub use Rattle.gix_odb.specs.LookUpOrder.Loose.{loose_from, after_loose, at_folder, by_verdict}
 pub use Rattle.gix_odb.specs.LookUpOrder.Trying.{goal_of, after_list, by_tried, try_view, trier_fed}
 pub use Rattle.gix_odb.specs.LookUpOrder.Checking.{is_unsettled, unsettled, counted, by_check, by_checked}
-pub use Rattle.gix_odb.specs.LookUpOrder.Refreshing.{by_read, with_own, own_by, without_absent, by_current, by_refresh}
+pub use Rattle.gix_odb.specs.LookUpOrder.Refreshing.{again, by_read, with_own, own_by, without_absent, by_current, by_refresh}
 pub use Rattle.gix_odb.specs.RefreshOrder.{view_of, view_shown}
 use Rattle.gix_odb.specs.Store.{listed_for}
 
 abbrev pub without_notes : Notes
 without_notes = record { failed = false; absent = [] }
 
-abbrev pub new_head : Want → ObjectId → LookHead
-new_head want id = record { want = want; id = id; begun = None; own = 0 }
+abbrev pub new_head : RefreshMode → Want → ObjectId → LookHead
+new_head mode want id = record { mode = mode; want = want; id = id; begun = None; own = 0 }
 
 -- a snapshot that is of a list that was read is tried first, without the indices that it doesn't have loaded
-abbrev pub started : Setting → View → Want → ObjectId → LookUp
-started setting view want id = record {
-  head = new_head want id;
-  stage = if view.read then try_view setting (new_head want id) parts.Snapshot view [] without_notes else stages.Refreshing fronts.Reading (purposes.First true) without_notes;
+abbrev pub started : Setting → RefreshMode → View → Want → ObjectId → LookUp
+started setting mode view want id = record {
+  head = new_head mode want id;
+  stage = if view.read then try_view setting (new_head mode want id) parts.Snapshot view [] without_notes else stages.Refreshing fronts.Reading (purposes.First true) without_notes;
 }
 
 abbrev pub ask_at : LookStage → Option Ask

@@ -57,7 +57,7 @@ impl CallState {
     pub fn start(alloc: Global, handle: &HandleState, call: Call) -> Result<CallState, NoMemory>
         requires of_hash { IsOfHash (hash_of handle.now) call }
         ensures handle { IfOk result (λ state. IsAlike state.handle handle.now) }
-        ensures begun { IfOk result (λ state. state.stage ≡ started (setting_at handle.now) (hash_of handle.now) handle.now.view (sought_by handle.now) call) }
+        ensures begun { IfOk result (λ state. state.stage ≡ started (setting_at handle.now) (hash_of handle.now) handle.now.refresh handle.now.view (sought_by handle.now) call) }
         ensures sized { HasSize call }
     {
         let stage = first_stage(alloc, handle, call)?;
@@ -212,7 +212,7 @@ impl CallStage {
 // The first stage of a call.
 fn first_stage(alloc: Global, handle: &HandleState, call: Call) -> Result<CallStage, NoMemory>
     requires of_hash { IsOfHash (hash_of handle.now) call }
-    ensures begun { IfOk result (λ stage. stage ≡ started (setting_at handle.now) (hash_of handle.now) handle.now.view (sought_by handle.now) call) }
+    ensures begun { IfOk result (λ stage. stage ≡ started (setting_at handle.now) (hash_of handle.now) handle.now.refresh handle.now.view (sought_by handle.now) call) }
     ensures sized { HasSize call }
 {
     match call {
@@ -275,11 +275,18 @@ fn setting_of(handle: &HandleState) -> Setting<'_>
 
 // A new query, from the snapshot of its handle.
 fn looking(alloc: Global, handle: &HandleState, query: Query) -> Result<CallStage, NoMemory>
-    ensures begun { IfOk result (λ stage. stage ≡ calls.looking (setting_at handle.now) handle.now.view (sought_by handle.now) query) }
+    ensures begun { IfOk result (λ stage. stage ≡ calls.looking (setting_at handle.now) handle.now.refresh handle.now.view (sought_by handle.now) query) }
 {
     let id = handle.sought(query);
     let setting = setting_of(handle);
-    let look = LookUp::start(alloc, &setting, &handle.view, query.want, id)?;
+    let look = LookUp::start(
+        alloc,
+        &setting,
+        handle.refresh,
+        &handle.view,
+        query.want,
+        id,
+    )?;
     Ok(CallStage::Looking(look))
 }
 

@@ -2,6 +2,7 @@
 ghost use Rattle.std.specs.Prelude.{◌≡◌, IfOk};
 ghost use Rattle.gix_odb.specs.HandleState.{IsAlike, replaced_by, sought_by, with_view};
 
+use crate::refresh_mode::RefreshMode;
 use gix_hash::ObjectId;
 use gix_object::Want;
 use gix_odb_calls::{Query, StoreParts};
@@ -15,6 +16,8 @@ use std::sync::Arc;
 pub struct HandleState {
     /// The parts of its store, which all handles on the store share.
     pub info: Arc<StoreParts, Global>,
+    /// Whether its look-ups bring the list of the core up to date.
+    pub refresh: RefreshMode,
     pub ignore_replacements: bool,
     /// The most changes of the list of indices that a call of the handle tolerates.
     pub max_changes: u32,
@@ -37,6 +40,7 @@ impl HandleState {
     {
         Ok(HandleState {
             info: Arc::try_clone(&self.info)?,
+            refresh: self.refresh,
             ignore_replacements: self.ignore_replacements,
             max_changes: self.max_changes,
             view,

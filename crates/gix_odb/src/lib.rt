@@ -23,6 +23,7 @@ mod handle_state;
 mod look_up;
 mod open_state;
 mod refresh;
+mod refresh_mode;
 mod refusals;
 mod see;
 
@@ -37,4 +38,5 @@ pub use handle_state::HandleState;
 pub use look_up::{LookHead, LookStage, LookUp, LooseRound, Part, Purpose, Setting};
 pub use open_state::{OpenStage, OpenState};
 pub use refresh::{Refresh, RefreshStep};
+pub use refresh_mode::RefreshMode;
 pub use refusals::of_refusal;

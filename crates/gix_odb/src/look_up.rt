@@ -15,7 +15,7 @@ mod refreshing;
 mod replies;
 mod trying;
 
-use crate::Refresh;
+use crate::{Refresh, RefreshMode};
 use gix_hash::ObjectId;
 use gix_object::Want;
 use gix_odb_calls::verdict::FolderCall;
@@ -47,6 +47,8 @@ pub struct LookUp {
 /// What a look-up is for, and how many lists it met.
 #[derive(Clone, Copy)]
 pub struct LookHead {
+    /// The mode of its handle, whose list it refreshes or not.
+    pub mode: RefreshMode,
     pub want: Want,
     /// The id that is sought.
     pub id: ObjectId,
@@ -72,7 +74,8 @@ pub enum Part {
 pub enum Purpose {
     /// A list that was read before is to be tried; whether the loose folders are, too.
     First { loose: bool },
-    /// The folders are to be listed again.
+    /// The folders are to be listed again; or, by a handle that never refreshes its list, this is to be read once more, and
+    /// tried.
     Again,
 }
 
@@ -151,13 +154,15 @@ impl LookUp {
     pub fn start(
         alloc: Global,
         setting: &Setting<'_>,
+        mode: RefreshMode,
         snapshot: &View,
         want: Want,
         id: ObjectId,
     ) -> Result<LookUp, NoMemory>
-        ensures begun { IfOk result (λ look. look ≡ order.started (setting_of setting.now) snapshot.now want id) }
+        ensures begun { IfOk result (λ look. look ≡ order.started (setting_of setting.now) mode snapshot.now want id) }
     {
         let head = LookHead {
+            mode,
             want,
             id,
             begun: None,

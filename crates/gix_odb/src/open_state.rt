@@ -13,6 +13,7 @@ ghost use Rattle.gix_odb.specs.Store.{listed_for};
 use crate::ask::OpenAsk;
 use crate::handle_state::HandleState;
 use crate::refresh::{listed_for, too_many};
+use crate::refresh_mode::RefreshMode;
 use gix_hash::ObjectId;
 use gix_odb_calls::{
     CallError, Options, PathList, Replacements, Reply, Slots, StoreParts, init, load_index,
@@ -152,6 +153,7 @@ impl OpenState {
         drop(stage);
         HandleState {
             info,
+            refresh: RefreshMode::default(),
             ignore_replacements: false,
             max_changes,
             view,

@@ -32,6 +32,11 @@ pub enum Step {
     Close {
         handle: u32,
     },
+    /// From now on an idle handle answers from the list of its store's core as it is: its look-ups list the folders only where
+    /// that list was never read.
+    Never {
+        handle: u32,
+    },
     /// From now on an idle handle seeks each id itself, and not its replacement.
     Ignore {
         handle: u32,
@@ -68,6 +73,7 @@ impl Step {
                 from: *from,
             }),
             Step::Close { handle } => Ok(Step::Close { handle: *handle }),
+            Step::Never { handle } => Ok(Step::Never { handle: *handle }),
             Step::Ignore { handle } => Ok(Step::Ignore { handle: *handle }),
             Step::Start { handle, call } => Ok(Step::Start {
                 handle: *handle,

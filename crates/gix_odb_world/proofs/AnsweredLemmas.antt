@@ -6,12 +6,16 @@ use Rattle.odb_disk.specs.MemDisk.{Volume}
 use Rattle.odb_disk.specs.declared.ask.DiskAnswer.{DiskAnswer}
 use Rattle.odb_disk.specs.declared.ask.DiskAsk.{DiskAsk}
 use Rattle.odb_disk.specs.declared.ask.DiskAsk.TheVariants as asks
+use Rattle.gix_hash.specs.declared.object_id.ObjectId.{ObjectId}
 use Rattle.gix_odb_core.specs.History.{History}
 use Rattle.gix_odb_events.specs.declared.answer.Answer.TheVariants as told
 use Rattle.gix_odb_events.specs.declared.answer.Ask.TheVariants as parts
 use Rattle.gix_odb.specs.LookExchanges.{AreAnswered, Exchange, IsAnswerTo}
 use Rattle.gix_odb.specs.Laps as laps
 use Rattle.gix_odb.specs.Laps.{AreWithin}
+use Rattle.gix_odb.specs.Fair.{PackedPlace}
+use Rattle.gix_odb.specs.StillListed.{AreFairOrFailed, IsFairOrFailed}
+use Rattle.gix_odb.specs.Store.{listed_for}
 use Rattle.gix_odb.specs.Stream.{stream_by, stream_in}
 use Rattle.gix_odb_world.proofs.CoreLaws.{core_answers_suit_their_events}
 use Rattle.gix_odb.proofs.HandedLaws.{IsOwnStream}
@@ -22,12 +26,15 @@ use Rattle.gix_odb_history.specs.Cores.{answer_behind, cores_after, history_at}
 use Rattle.gix_odb_history.specs.Event.{CoreAnswer, CoreEvent, Event, OfCore, OfDisk}
 use Rattle.gix_odb_history.specs.Run.{disk_after, tree_at}
 use Rattle.gix_odb_world.specs.Running.Answered.{IsAnsweredWell}
+use Rattle.gix_odb_world.specs.Running.PackedStill.{IsPackedStill}
 use Rattle.gix_odb_world.specs.Told.{told_since}
 use Rattle.gix_odb_world.proofs.DiskTold.{suits}
 use Rattle.gix_odb_world.proofs.MachineLaws.{IsRunning, IsTurnAsking}
 use Rattle.gix_odb_world.proofs.Streams.{next_entry_suits, streams_are_short}
 use Rattle.gix_odb_world.proofs.ToldLemmas.{told_first, told_turn}
 use Rattle.gix_odb_world.proofs.ToldLists.{AreAnswered-push, AreWithin-push, nothing_among, one_of_more, within_last}
+use Rattle.gix_odb_world.proofs.PackedStill.{AreFairOrFailed-push, told_fairly_or_failed}
+use Rattle.gix_odb_world.proofs.PackedStill.Moments.{still_before, tree_before}
 use Rattle.gix_odb_world.proofs.ToldWell.{most_before}
 
 module _ (first : Volume) (events : List Event) (e : Event) where
@@ -41,6 +48,9 @@ module _ (first : Volume) (events : List Event) (e : Event) where
     suited = subst AreSuited (sym same) well.suited;
     answered = subst AreAnswered (sym same) well.answered;
     within = λ entries most. subst (AreWithin entries None) (sym same) (well.within entries (most_before first events e store begun entries most));
+    met = λ id place still.
+        subst (AreFairOrFailed (listed_for store.parts).multi store.parts.object_hash id place []) (sym same)
+        (well.met id place (still_before first events e store begun id place still));
   }
 
   -- where work begins there is no answer yet
@@ -54,6 +64,7 @@ module _ (first : Volume) (events : List Event) (e : Event) where
         suited = λ exchange among. absurd (nothing_among exchange (subst (λ xs. Contains xs exchange) none among));
         answered = subst AreAnswered (sym none) tt;
         within = λ entries most. subst (AreWithin entries None) (sym none) tt;
+        met = λ id place still. subst (AreFairOrFailed (listed_for store.parts).multi store.parts.object_hash id place []) (sym none) tt;
       }
 
   -- ---- its own turn
@@ -69,8 +80,10 @@ module _ (first : Volume) (events : List Event) (e : Event) where
     answered_more : (exchange : Exchange) → told_since whole handle running.begun ≡ before ++ exchange ∷ []
         → IsSuited exchange.ask exchange.answer → IsAnswerTo exchange.ask exchange.answer
         → ((entries : ℕ) → Most entries → laps.HasAtMost entries (stream_by (stream_in before) exchange.ask exchange.answer))
+        → ((id : ObjectId) (place : PackedPlace) → IsPackedStill (tree_at first whole) running.store running.begun (length whole) id place
+        → IsFairOrFailed (listed_for running.store.parts).multi running.store.parts.object_hash id place before exchange.ask exchange.answer)
         → IsAnsweredWell first whole handle running.store running.begun
-    answered_more exchange same suited answers short = record {
+    answered_more exchange same suited answers short meets = record {
       suited = λ one among.
           elim (one_of_more before exchange one (subst (λ xs. Contains xs one) same among)) [
             | inl old ↦ well.suited one old
@@ -80,6 +93,10 @@ module _ (first : Volume) (events : List Event) (e : Event) where
       within = λ entries most.
           subst (AreWithin entries None) (sym same)
           (AreWithin-push entries None before exchange (well.within entries (most_before first events e running.store running.begun entries most)) (short entries most));
+      met = λ id place still.
+          subst (AreFairOrFailed (listed_for running.store.parts).multi running.store.parts.object_hash id place []) (sym same)
+          (AreFairOrFailed-push (listed_for running.store.parts).multi running.store.parts.object_hash id place [] before exchange
+          (well.met id place (still_before first events e running.store running.begun id place still)) (meets id place still));
     }
 
     -- the open stream has given no more entries than its folder had
@@ -102,6 +119,7 @@ module _ (first : Volume) (events : List Event) (e : Event) where
       answered_on_disk =
           answered_more call told_call (suits (disk_after first events) ask (λ dir is. next_entry_suits first events e handle running ran dir (own dir is))) tt
           (λ entries most. streams_are_short first events e handle running ran ask own entries most (still_short entries most))
+          (λ id place still. told_fairly_or_failed first events e handle running ran since id place still ask own (tree_before first events))
 
     -- an event of the core of its store
     module _ (event : CoreEvent) (turn : IsTurnAsking first events e handle running (Some (parts.Core event))) where
@@ -120,4 +138,4 @@ module _ (first : Volume) (events : List Event) (e : Event) where
       pub answered_on_core : IsAnsweredWell first whole handle running.store running.begun
       answered_on_core =
           let suits_event = core_answers_suit_their_events history.opening history.entries handle event core_answer refl in
-          answered_more entry told_event suits_event suits_event still_short
+          answered_more entry told_event suits_event suits_event still_short (λ id place still. suits_event)

@@ -15,12 +15,12 @@ use Rattle.gix_odb_calls.specs.declared.step.Step.TheVariants as steps
 use Rattle.gix_odb_calls.specs.declared.step.Outcome.{Outcome}
 use Rattle.gix_odb_calls.specs.declared.step.Outcome.TheVariants as outcomes
 use Rattle.gix_odb_history.specs.Event.{Event}
-use Rattle.gix_odb_world.specs.Status.{Status, Store, Free, after_turn_of, cloned, ignoring_from, replied, started, status_after, status_of, store_at, turned, with_status}
-use Rattle.gix_odb_world.specs.Begun.{IsIgnoreOf, IsTaskOf, OpenedBy}
+use Rattle.gix_odb_world.specs.Status.{Status, Store, Free, after_turn_of, cloned, frozen_from, ignoring_from, replied, started, status_after, status_of, store_at, turned, with_status}
+use Rattle.gix_odb_world.specs.Begun.{IsTaskOf, OpenedBy}
 use Rattle.gix_odb_world.specs.Valid.{misuse_of, why_not_after}
 use Rattle.gix_odb_world.specs.Headline.{IsLawful}
 use Rattle.gix_odb_world.proofs.AlongRun.{along_run}
-use Rattle.gix_odb_world.proofs.BegunLemmas.OneEvent.{Stems, holds_opened, none_after, opened_now, stems_ignoring, stems_kept, stems_started}
+use Rattle.gix_odb_world.proofs.BegunLemmas.OneEvent.{IsModeOf, Stems, holds_opened, none_after, opened_now, stems_frozen, stems_ignoring, stems_kept, stems_started}
 use Rattle.gix_odb_world.proofs.BegunLemmas.OneTurn.{stems_cloned, stems_replied, stems_turned}
 use Rattle.gix_odb_world.proofs.ValidLaws.{valid_if_sound}
 
@@ -48,8 +48,8 @@ module _ (first : Volume) (past : List Event) (e : Event) (before : (handle : �
   table = status_of past
 
   -- a handle to which the step doesn't belong keeps its steps
-  others : (step : Step) → e.step ≡ step → (handle : ℕ) → ¬ (IsTaskOf handle step) → ¬ (IsIgnoreOf handle step) → Stems now handle (table handle)
-  others step is handle no_task no_ignore = stems_kept past e handle (table handle) (λ _ t. no_task (subst (IsTaskOf handle) is t)) (λ _ i. no_ignore (subst (IsIgnoreOf handle) is i)) (before handle)
+  others : (step : Step) → e.step ≡ step → (handle : ℕ) → ¬ (IsTaskOf handle step) → ¬ (IsModeOf handle step) → Stems now handle (table handle)
+  others step is handle no_task no_mode = stems_kept past e handle (table handle) (λ _ t. no_task (subst (IsTaskOf handle) is t)) (λ _ m. no_mode (subst (IsModeOf handle) is m)) (before handle)
 
   -- as each handle does where no step was applied
   unapplied : e.outcome ≢ outcomes.Applied → (handle : ℕ) → Stems now handle (table handle)
@@ -73,6 +73,9 @@ module _ (first : Volume) (past : List Event) (e : Event) (before : (handle : �
       stems_set now table number (cloned e.asked (table from)) handle (stems_cloned past e number from e.asked (table from) step applied (before from))
       (λ apart. others (steps.Clone number from) step handle (λ same. apart (sym same)) (λ never. never))
   stems_applied (steps.Close number) step applied valid handle = stems_set now table number Free handle tt (λ apart. others (steps.Close number) step handle (λ never. never) (λ never. never))
+  stems_applied (steps.Never number) step applied valid handle =
+      stems_set now table number (frozen_from (table number)) handle (stems_frozen past e number (table number) valid step applied (before number))
+      (λ apart. others (steps.Never number) step handle (λ never. never) (λ same. apart (sym same)))
   stems_applied (steps.Ignore number) step applied valid handle =
       stems_set now table number (ignoring_from (table number)) handle (stems_ignoring past e number (table number) valid step applied (before number))
       (λ apart. others (steps.Ignore number) step handle (λ never. never) (λ same. apart (sym same)))

@@ -71,6 +71,7 @@ matches_cloned cores number (Resting store modes) parent view idle match seen =
     let own = match.0 in (
       record {
         parts = own.parts;
+        refresh = own.refresh;
         ignoring = own.ignoring;
         changes = own.changes;
         core = own.core;

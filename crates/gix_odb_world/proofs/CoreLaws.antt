@@ -2,6 +2,8 @@
 pub mod Wider
 pub mod Fairness
 pub mod MultiRows
+mod HeldRows
+pub mod LastListing
 pub mod Journals
 pub mod Shapes
 mod Answers

@@ -63,6 +63,7 @@ module _ (past : List Event) (e : Event) (before : (handle : ℕ) → Stands pas
   of_applied (steps.Open number path folders hash replacements options) = tt
   of_applied (steps.Clone number from) = of_clone number from (status_of past from) (before from)
   of_applied (steps.Close number) = of_close number (status_of past number) (before number)
+  of_applied (steps.Never number) = tt
   of_applied (steps.Ignore number) = tt
   of_applied (steps.Start number call) = tt
   of_applied (steps.Turn number) = tt

@@ -38,6 +38,7 @@ use Rattle.gix_odb_world.specs.Status.{Store}
 use Rattle.gix_odb_events.specs.declared.event.Refusal.{Refusal}
 use Rattle.gix_odb.specs.LookExchanges.{Exchange}
 use Rattle.gix_odb.specs.Held.{Held}
+use Rattle.gix_odb.specs.declared.refresh_mode.RefreshMode.{RefreshMode}
 use Rattle.gix_odb_world.specs.Promise.{Keeps, claim_of}
 
 -- the loose objects of a folder, for ids of the hash of one
@@ -52,10 +53,10 @@ folder_asks_still limit Presence id folder = refl
 
 -- What a verdict on a folder says: an answer that was held or an error with its cause, a miss by a call of the disk that
 -- didn't fail, or an error with its cause that is noted.
-abbrev pub VerdictSays : (ℕ → Tree) → Type 0 → (Refused : Refusal → Type 0) → (told : List Exchange) → Store → ℕ → ℕ → Want → ObjectId → Path → (fails : Bool) → Verdict → Type 0
-VerdictSays trees Failed Refused told store begun now want id folder fails (verdicts.Ends reply) = Keeps trees Failed Refused told store begun now want id (claim_of want reply)
-VerdictSays trees Failed Refused told store begun now want id folder fails verdicts.Misses = (fails ≡ false) × (¬ (LeadsToFile (trees now) (loose_path folder id)))
-VerdictSays trees Failed Refused told store begun now want id folder fails (verdicts.Notes error) = LooseCause trees Failed store begun now want id error
+abbrev pub VerdictSays : (ℕ → Tree) → Type 0 → (Refused : Refusal → Type 0) → (told : List Exchange) → Store → RefreshMode → ℕ → ℕ → Want → ObjectId → Path → (fails : Bool) → Verdict → Type 0
+VerdictSays trees Failed Refused told store mode begun now want id folder fails (verdicts.Ends reply) = Keeps trees Failed Refused told store mode begun now want id (claim_of want reply)
+VerdictSays trees Failed Refused told store mode begun now want id folder fails verdicts.Misses = (fails ≡ false) × (¬ (LeadsToFile (trees now) (loose_path folder id)))
+VerdictSays trees Failed Refused told store mode begun now want id folder fails (verdicts.Notes error) = LooseCause trees Failed store begun now want id error
 
 -- the answer to a call of the disk: that it failed, or what the tree says
 abbrev given_by : (fails : Bool) → (told : DiskAnswer) → DiskAnswer
@@ -74,7 +75,7 @@ sound_header : (at : Path) (fails : Bool) (told : DiskAnswer) → header_by at (
 sound_header at true told e = absurd (cc e)
 sound_header at false told e = refl
 
-module _ (trees : ℕ → Tree) (Failed : Type 0) (Refused : Refusal → Type 0) (told : List Exchange) (store : Store) (begun now : ℕ) (later : begun ≤ now) (disk : Volume) (shown : trees now ≡ tree_of disk.state)
+module _ (trees : ℕ → Tree) (Failed : Type 0) (Refused : Refusal → Type 0) (told : List Exchange) (store : Store) (mode : RefreshMode) (begun now : ℕ) (later : begun ≤ now) (disk : Volume) (shown : trees now ≡ tree_of disk.state)
     (fails : next_fails disk ≡ true → Failed) (id : ObjectId) (folder : Path) (among : Contains (folder_list store.parts) folder) where
   abbrev at : Path
   at = loose_path folder id
@@ -83,7 +84,7 @@ module _ (trees : ℕ → Tree) (Failed : Type 0) (Refused : Refusal → Type 0)
   SaysNow want reply = Says at store.parts.alloc_limit_bytes (job_of want id) (tree_of disk.state) (next_fails disk ≡ true) ⊥ reply
 
   abbrev SaysBy : Want → Verdict → Type 0
-  SaysBy want verdict = VerdictSays trees Failed Refused told store begun now want id folder (next_fails disk) verdict
+  SaysBy want verdict = VerdictSays trees Failed Refused told store mode begun now want id folder (next_fails disk) verdict
 
   -- what a read of the path gives now
   abbrev IsRead : Reading → Type 0

@@ -25,14 +25,14 @@ use Rattle.gix_odb_events.specs.declared.event.Event.TheVariants as core_events
 use Rattle.gix_odb_history.specs.Cores.{answer_behind, cores_after, cores_after_asked, history_at}
 use Rattle.gix_odb_history.specs.Event.{Asked, Event, OfCore}
 use Rattle.gix_odb_world.specs.Headline.{LeavesDisk, asked_applied, asked_by_close}
-use Rattle.gix_odb_world.specs.Status.{OpenStore, Store, Status, Free, Resting, Working, store_at, opening_at, ignoring_from, modes_at_opening, status_of}
+use Rattle.gix_odb_world.specs.Status.{OpenStore, Store, Status, Free, Resting, Working, store_at, opening_at, frozen_from, ignoring_from, modes_at_opening, status_of}
 use Rattle.gix_odb_world.specs.Handle.{Begins, IsHandleOf, Seen, opening_parts, seen_at}
 use Rattle.gix_odb_world.specs.declared.handle.HandleAt.TheVariants as stands
 use Rattle.gix_odb_history.specs.Run.{IsTurnOf, did_of_asked}
 use Rattle.gix_odb_world.specs.Running.{Runs}
 use Rattle.gix_odb_world.specs.Valid.{Phase, NoneThere, Idle, Running, why_not_open, why_not_idle}
 use Rattle.gix_odb_world.specs.World.{Continues, Explains, Matches, handle_at}
-use Rattle.gix_odb_world.specs.Table.{SetsHandle, Notes, phase_of_handle, phase_of_work, why_not_now, seen_ignoring}
+use Rattle.gix_odb_world.specs.Table.{SetsHandle, Notes, phase_of_handle, phase_of_work, why_not_now, seen_frozen, seen_ignoring}
 use Rattle.gix_odb_world.specs.Watch.{Watches}
 use Rattle.gix_odb_world.proofs.StepLemmas.{Tells, applied, applied_at_core}
 use Rattle.gix_odb_world.proofs.KnowsLemmas.{begins, runs-push}
@@ -46,7 +46,7 @@ runs_opening first events e handle store =
 opens_store : (path : Path) (folders : List Path) (hash : HashKind) (replacements : List (ObjectId × ObjectId)) (options : Options) (n : ℕ) (opening : OpenState)
     → Begins path folders hash replacements options opening
     → IsHandleOf (store_at n path folders hash replacements options) modes_at_opening (opening_parts 0 opening)
-opens_store path folders hash replacements options n opening begun = record { parts = begun.parts; ignoring = refl; changes = begun.changes; core = refl; view = refl }
+opens_store path folders hash replacements options n opening begun = record { parts = begun.parts; refresh = refl; ignoring = refl; changes = begun.changes; core = refl; view = refl }
 
 pub opened : (old mid new : Course) (shown : Kept) (number : ℕ) (path : Path) (folders : List Path) (hash : HashKind) (replacements : List (ObjectId × ObjectId)) (options : Options)
     (opening : OpenState)
@@ -119,6 +119,18 @@ closed old mid new cores number handle did reason there did_is cores_are sets no
 
 -- ---- the mode of an idle handle
 
+matches_frozen : (status : Status) (handle : Option Seen) → why_not_idle (phase_of_handle handle) ≡ None
+    → Matches status handle → Matches (frozen_from status) (seen_frozen handle)
+matches_frozen Free None idle match = tt
+matches_frozen Free (Some handle) idle match = absurd match
+matches_frozen (Resting store modes) None idle match = absurd match
+matches_frozen (Resting store modes) (Some handle) idle match =
+    let own = match.0 in
+    (record { parts = own.parts; refresh = refl; ignoring = own.ignoring; changes = own.changes; core = own.core; view = own.view }, match.1)
+matches_frozen (Working running) None idle match = absurd match
+matches_frozen (Working running) (Some handle) idle match =
+    absurd (cc (subst (λ (w : Option Work). why_not_idle (phase_of_work handle.state.info.object_hash w) ≡ None) match.1 idle))
+
 matches_ignoring : (status : Status) (handle : Option Seen) → why_not_idle (phase_of_handle handle) ≡ None
     → Matches status handle → Matches (ignoring_from status) (seen_ignoring handle)
 matches_ignoring Free None idle match = tt
@@ -126,16 +138,34 @@ matches_ignoring Free (Some handle) idle match = absurd match
 matches_ignoring (Resting store modes) None idle match = absurd match
 matches_ignoring (Resting store modes) (Some handle) idle match =
     let own = match.0 in
-    (record { parts = own.parts; ignoring = refl; changes = own.changes; core = own.core; view = own.view }, match.1)
+    (record { parts = own.parts; refresh = own.refresh; ignoring = refl; changes = own.changes; core = own.core; view = own.view }, match.1)
 matches_ignoring (Working running) None idle match = absurd match
 matches_ignoring (Working running) (Some handle) idle match =
     absurd (cc (subst (λ (w : Option Work). why_not_idle (phase_of_work handle.state.info.object_hash w) ≡ None) match.1 idle))
+
+runs_frozen : (number : ℕ) (first : Volume) (events : List Event) (e : Event) (status : Status) → ((other : ℕ) → ¬ IsTurnOf other e)
+    → Runs first events number status → Runs first (events ++ e ∷ []) number (frozen_from status)
+runs_frozen number first events e Free no_turn runs = tt
+runs_frozen number first events e (Resting store modes) no_turn runs = tt
+runs_frozen number first events e (Working running) no_turn runs = runs-push first events e number (Working running) (no_turn number) runs
 
 runs_ignoring : (number : ℕ) (first : Volume) (events : List Event) (e : Event) (status : Status) → ((other : ℕ) → ¬ IsTurnOf other e)
     → Runs first events number status → Runs first (events ++ e ∷ []) number (ignoring_from status)
 runs_ignoring number first events e Free no_turn runs = tt
 runs_ignoring number first events e (Resting store modes) no_turn runs = tt
 runs_ignoring number first events e (Working running) no_turn runs = runs-push first events e number (Working running) (no_turn number) runs
+
+pub frozen : (old mid new : Course) (number : ℕ) → why_not_now old (steps.Never number) ≡ None
+    → SetsHandle old mid number (seen_frozen (handle_at old number)) → Notes mid new outcomes.Applied Nothing None
+    → Continues old (steps.Never number) new
+frozen old mid new number reason sets notes =
+    applied old mid new old.shown (steps.Never number) number (seen_frozen (handle_at old number)) (λ n status. frozen_from status)
+    reason
+    (record { table = sets.table; disk = sets.disk; cores = sets.cores; shown = sets.shown; outcomes = sets.outcomes; records = sets.records })
+    notes (λ trees since now is begun k. k) (λ turn. turn) refl (λ other turn. cc) (λ n asked table. refl)
+    (λ n status match. matches_frozen status (handle_at old number) reason match)
+    (λ first events e explains starts asked no_turn. runs_frozen number first events e (status_of events number) no_turn (explains.running number))
+    (λ events. refl)
 
 pub ignored : (old mid new : Course) (number : ℕ) → why_not_now old (steps.Ignore number) ≡ None
     → SetsHandle old mid number (seen_ignoring (handle_at old number)) → Notes mid new outcomes.Applied Nothing None

@@ -61,7 +61,7 @@ looking_kept first events e handle running look other knows =
     let view_is = view_kept events e handle running.begun knows.since running.modes.core in
     let setting = setting_in running.store in
     let begun_is : look_begun events handle running.store running.modes running.begun knows.query ≡ look_begun whole handle running.store running.modes running.begun knows.query =
-    ap (λ v. looks.started setting v knows.query.want (sought running.store.parts running.modes.ignoring knows.query)) (sym view_is) in
+    ap (λ v. looks.started setting running.modes.refresh v knows.query.want (sought running.store.parts running.modes.ignoring knows.query)) (sym view_is) in
     let longer = length_push events e in
     let since = knows.since in
     record {

@@ -30,24 +30,26 @@ use Rattle.gix_odb_events.specs.PackPath.{folder_of, pack_in, pack_path}
 use Rattle.gix_odb_search.specs.PackFolder.{multi_index_name, pack_folder}
 use Rattle.gix_pack_read.specs.Pack.{entry_at, header_at, is_pack}
 use Rattle.gix_odb.specs.Caused.{IsCaused}
-use Rattle.gix_odb.specs.LookExchanges.{AreAsked, Exchange, HasVerdict}
+use Rattle.gix_odb.specs.LookExchanges.{AreAsked, Exchange, HasVerdict, behind}
 use Rattle.gix_odb.specs.Fair.{ItsIndex, PackedPlace, TheMulti}
 use Rattle.gix_odb.specs.Found.{Gives, IsEntryReply, IsFound, IsHeaderReply, IsInIndex, IsInPack}
-use Rattle.gix_odb.specs.LookUpOrder.{Setting, not_found, result_of}
+use Rattle.gix_odb.specs.LookUpOrder.{Setting, not_found, result_of, started}
 use Rattle.gix_odb.specs.Reply.{IsAnswer, IsReplyTo}
 use Rattle.gix_odb.specs.declared.look_up.LookUp.{LookUp}
 use Rattle.gix_odb.proofs.CauseLaws.{each_refusal_has_its_cause, replies_are_of_the_query}
 use Rattle.gix_odb.proofs.FoundLaws.{what_is_found_was_shown}
-use Rattle.gix_odb.proofs.MissLaws.{not_found_had_no_failure, not_found_missed_in_each_folder, nothing_still_in_packs_is_missed}
+use Rattle.gix_odb.proofs.MissLaws.{not_found_had_no_failure, not_found_missed_in_each_folder, nothing_still_in_packs_is_missed, nothing_still_since_the_opening_is_missed}
 use Rattle.gix_odb.specs.Contents.{Answer, Contents, HeaderOf, Holds, HoldsEntry, InIndex, InMulti, InMultiPack, InPack, LooseFile, Object, Presence, folder_list, sought}
 use Rattle.gix_odb.specs.Held.{Held, InLooseFile, InMultiPackFile, InPackFile, LiesAt, Place, Still, WasShown, WasShownAt, WasShownWith, index_path, multi_path}
 use Rattle.gix_odb.specs.Moments.{Throughout}
 use Rattle.gix_odb.specs.Shown.{ShowedBytes}
 use Rattle.gix_odb.specs.Store.{listed_for}
+use Rattle.gix_odb.specs.declared.refresh_mode.RefreshMode.{RefreshMode}
+use Rattle.gix_odb.specs.declared.refresh_mode.RefreshMode.TheVariants.{AfterAllIndicesLoaded, Never}
 use Rattle.gix_odb_world.specs.AtWork.{Modes, Store, setting_in}
 use Rattle.gix_odb_world.specs.Causes.{FindCause, GaveSometime, LooseCause, Sometime}
 use Rattle.gix_odb_history.specs.Event.{Event}
-use Rattle.gix_odb_world.specs.Promise.{Claim, Keeps, QueryPromise, claim_of}
+use Rattle.gix_odb_world.specs.Promise.{Claim, Keeps, QueryPromise, claim_of, still_from}
 use Rattle.gix_odb_history.specs.Run.{FailedSince, tree_at}
 use Rattle.gix_odb_world.specs.Refused.{RefusedSince}
 use Rattle.gix_odb_world.specs.Running.PackedStill.{IndicesShowOne, IsPackedStill}
@@ -58,6 +60,7 @@ use Rattle.gix_odb_history.proofs.FailedLemmas.{fails_now-still}
 use Rattle.gix_odb_world.proofs.FolderLemmas.{VerdictSays, folder_asks_still, folder_says}
 use Rattle.gix_odb_world.proofs.PackPaths.{folder_of-push}
 use Rattle.gix_odb_world.proofs.PackedStill.Contents.{lies_by_index, lies_by_multi, packed_at, sound_multi_gives, uses_multis}
+use Rattle.gix_odb_world.proofs.PackedStill.Moments.{still_later}
 use Rattle.gix_odb_world.proofs.ReadsShown.{shown_at}
 use Rattle.gix_odb_world.proofs.RefusedLemmas.{never_for_memory, since_told}
 
@@ -104,7 +107,7 @@ module _ (first : Volume) (events : List Event) (handle : ℕ) (store : Store) (
   look = look_now events handle store modes begun query
 
   abbrev Says : Claim → Type 0
-  Says claim = Keeps trees Failed Refused told store begun now want id claim
+  Says claim = Keeps trees Failed Refused told store modes.refresh begun now want id claim
 
   abbrev IsHeld : Answer → Type 0
   IsHeld answer = Held trees store.parts store.opened begun now want id answer
@@ -148,18 +151,18 @@ module _ (first : Volume) (events : List Event) (handle : ℕ) (store : Store) (
     fails : next_fails given.disk ≡ true → Failed
     fails is = given.failed (fails_now-still given.disk (folder_ask call) (folder_asks_still store.parts.alloc_limit_bytes want id folder) ∙ is)
 
-    said : VerdictSays trees Failed Refused told store begun given.moment want id folder (next_fails given.disk) verdict
+    said : VerdictSays trees Failed Refused told store modes.refresh begun given.moment want id folder (next_fails given.disk) verdict
     said =
-        let says = folder_says trees Failed Refused told store begun given.moment given.from given.disk given.shown fails id folder among want in
-        subst (VerdictSays trees Failed Refused told store begun given.moment want id folder (next_fails given.disk))
+        let says = folder_says trees Failed Refused told store modes.refresh begun given.moment given.from given.disk given.shown fails id folder among want in
+        subst (VerdictSays trees Failed Refused told store modes.refresh begun given.moment want id folder (next_fails given.disk))
         (ap (folder_verdict call) (sym given.is) ∙ has.is) says
 
   -- what a folder's loose objects said of a reply, and so of a claim
   claim_later : (moment : ℕ) → moment ≤ now → (reply : Reply) → IsAnswer reply
-      → Keeps trees Failed Refused told store begun moment want id (claim_of want reply) → Says (claim_of want reply)
+      → Keeps trees Failed Refused told store modes.refresh begun moment want id (claim_of want reply) → Says (claim_of want reply)
   claim_later moment to reply answer keeps = by want reply answer keeps
     where
-      by : (wanted : Want) (reply : Reply) → IsAnswer reply → Keeps trees Failed Refused told store begun moment want id (claim_of wanted reply) → Says (claim_of wanted reply)
+      by : (wanted : Want) (reply : Reply) → IsAnswer reply → Keeps trees Failed Refused told store modes.refresh begun moment want id (claim_of wanted reply) → Says (claim_of wanted reply)
       by wants.Object (replies.Found kind bytes) answer keeps = held_later moment to (Object kind bytes) keeps
       by wants.Object (replies.Header header) answer keeps = keeps
       by wants.Object (replies.Tested true) answer keeps = keeps
@@ -253,7 +256,7 @@ module _ (first : Volume) (events : List Event) (handle : ℕ) (store : Store) (
 
   answered : (reply : Reply) → result_of look ≡ Ok reply → IsAnswer reply → Says (claim_of want reply)
   answered reply is answer =
-      elim (what_is_found_was_shown Shown setting store.parts.object_hash want id fits.hashed view well.snapshot told asked well.truth reply is answer) [
+      elim (what_is_found_was_shown Shown setting store.parts.object_hash want id fits.hashed modes.refresh view well.snapshot told asked well.truth reply is answer) [
         | inl in_packs ↦ found want reply refl in_packs
         | inr loose ↦
             let at = given loose.0 loose.1 (verdicts.Ends reply) loose.2 in
@@ -262,13 +265,27 @@ module _ (first : Volume) (events : List Event) (handle : ℕ) (store : Store) (
 
   -- ---- nothing was found
 
+  -- the moment from which an object has to stay unchanged, and so one that isn't found must not have
+  abbrev since : ℕ
+  since = still_from modes.refresh store begun
+
+  since_early : since ≤ begun
+  since_early = by modes.refresh
+    where
+      by : (mode : RefreshMode) → still_from mode store begun ≤ begun
+      by Never = well.opened
+      by AfterAllIndicesLoaded = omega arith
+
+  since_then : (moment : ℕ) → begun ≤ moment → since ≤ moment
+  since_then moment from = let early = since_early in omega (arith, early, from)
+
   module _ (is : result_of look ≡ Ok (not_found want)) where
     none_failed : ¬ Failed
-    none_failed failed = not_found_had_no_failure setting want id Shown store.parts.object_hash view told asked well.truth is (well.failures failed)
+    none_failed failed = not_found_had_no_failure setting want id Shown store.parts.object_hash modes.refresh view told asked well.truth is (well.failures failed)
 
     module _ (folder : Path) (among : Contains (folder_list store.parts) folder) where
       abbrev has : HasVerdict setting want id told folder verdicts.Misses
-      has = not_found_missed_in_each_folder setting want id view told asked is folder among
+      has = not_found_missed_in_each_folder setting want id modes.refresh view told asked is folder among
 
       -- the moment at which its loose objects were asked
       abbrev at : IsGiven first events handle begun (folder_ask (asking store.parts.alloc_limit_bytes want id folder)) has.answer
@@ -278,15 +295,27 @@ module _ (first : Volume) (events : List Event) (handle : ℕ) (store : Store) (
       passed = (said folder among verdicts.Misses has).1
 
       -- nothing stayed unchanged in a pack of the folder
-      none_packed : (place : PackedPlace) → place.folder ≡ folder → ¬ (IsPackedStill trees store begun now id place)
-      none_packed place here still =
-          nothing_still_in_packs_is_missed setting store.parts.object_hash view want id told fits.hashed place still.carried
-          (subst (Contains (folder_list store.parts)) (sym here) among) asked (well.fair id place none_failed still) is
+      none_packed : (place : PackedPlace) → place.folder ≡ folder → ¬ (IsPackedStill trees store since now id place)
+      none_packed place here = by modes.refresh refl
+        where
+          among_them : Contains (folder_list store.parts) place.folder
+          among_them = subst (Contains (folder_list store.parts)) (sym here) among
+
+          by : (mode : RefreshMode) → modes.refresh ≡ mode → ¬ (IsPackedStill trees store (still_from mode store begun) now id place)
+          by AfterAllIndicesLoaded mode still =
+              nothing_still_in_packs_is_missed setting store.parts.object_hash view want id told fits.hashed place still.carried among_them
+              (subst (λ (m : RefreshMode). AreAsked setting (started setting m view want id) told) mode asked) (well.fair id place none_failed still)
+              (sym (ap (λ (m : RefreshMode). result_of (behind setting (started setting m view want id) told)) mode) ∙ is)
+          by Never mode still =
+              nothing_still_since_the_opening_is_missed setting store.parts.object_hash view want id told fits.hashed place still.carried among_them
+              (subst (λ (m : RefreshMode). AreAsked setting (started setting m view want id) told) mode asked)
+              (well.fair id place none_failed (still_later trees store store.opened begun now id place well.opened still)) (well.listed id place among_them still)
+              (sym (ap (λ (m : RefreshMode). result_of (behind setting (started setting m view want id) told)) mode) ∙ is)
 
       -- no index gave it an offset throughout, with a pack of the same name
-      not_in_pack : (name : Name) (offset : ℕ) → ¬ (Throughout begun now (λ moment. LiesAt store.parts want (trees moment) folder id (InPackFile name offset)))
+      not_in_pack : (name : Name) (offset : ℕ) → ¬ (Throughout since now (λ moment. LiesAt store.parts want (trees moment) folder id (InPackFile name offset)))
       not_in_pack name offset always =
-          let named = (always at.moment at.from at.to).named in
+          let named = (always at.moment (since_then at.moment at.from) at.to).named in
           none_packed (packed_at folder ItsIndex name offset) refl
           (record {
             carried = named;
@@ -295,9 +324,9 @@ module _ (first : Volume) (events : List Event) (handle : ℕ) (store : Store) (
           })
 
       -- and no multi-pack index did, with a pack that it names
-      not_by_multi : (name : Name) (offset : ℕ) → ¬ (Throughout begun now (λ moment. LiesAt store.parts want (trees moment) folder id (InMultiPackFile name offset)))
+      not_by_multi : (name : Name) (offset : ℕ) → ¬ (Throughout since now (λ moment. LiesAt store.parts want (trees moment) folder id (InMultiPackFile name offset)))
       not_by_multi name offset always =
-          let lies = always at.moment at.from at.to in
+          let lies = always at.moment (since_then at.moment at.from) at.to in
           let gives = sound_multi_gives store.parts want id name lies.multi lies.pack offset lies.sound in
           none_packed (packed_at folder TheMulti name offset) refl
           (record {
@@ -306,17 +335,17 @@ module _ (first : Volume) (events : List Event) (handle : ℕ) (store : Store) (
             one = tt;
           })
 
-      none_still : (place : Place) → ¬ (Throughout begun now (λ moment. LiesAt store.parts want (trees moment) folder id place))
+      none_still : (place : Place) → ¬ (Throughout since now (λ moment. LiesAt store.parts want (trees moment) folder id place))
       none_still InLooseFile always =
-          let here = always at.moment at.from at.to in passed (record { bytes = here.0; time = here.1.0; given = here.1.1; holds = tt })
+          let here = always at.moment (since_then at.moment at.from) at.to in passed (record { bytes = here.0; time = here.1.0; given = here.1.1; holds = tt })
       none_still (InPackFile name offset) always = not_in_pack name offset always
       none_still (InMultiPackFile name offset) always = not_by_multi name offset always
 
-    missed : (¬ Failed) × (¬ (Still trees store.parts begun now want id))
+    missed : (¬ Failed) × (¬ (Still trees store.parts since now want id))
     missed = (none_failed, λ still. none_still still.folder still.among still.place still.always)
 
   refusal : (error : finding.Error) → result_of look ≡ Ok (replies.Refused (call_errors.Find error)) → FindCause trees Failed Refused told store begun now want id error
-  refusal error is = by error (each_refusal_has_its_cause Shown setting store.parts.object_hash want id fits.hashed view well.snapshot told asked well.truth modes.slots 0 well.numbered error is)
+  refusal error is = by error (each_refusal_has_its_cause Shown setting store.parts.object_hash want id fits.hashed modes.refresh view well.snapshot told asked well.truth modes.slots 0 well.numbered error is)
     where
       by : (error : finding.Error) → IsCaused Shown setting store.parts.object_hash id want told error → FindCause trees Failed Refused told store begun now want id error
       by (errors.Loose error) caused =
@@ -337,9 +366,9 @@ module _ (first : Volume) (events : List Event) (handle : ℕ) (store : Store) (
       by errors.NoMemory caused = caused
 
   pub query_promise : (reply : Reply) → result_of look ≡ Ok reply → QueryPromise trees Failed Refused told store modes begun now query reply
-  query_promise reply is = by want reply refl (replies_are_of_the_query setting view want id told reply is) is
+  query_promise reply is = by want reply refl (replies_are_of_the_query setting modes.refresh view want id told reply is) is
     where
-      missing : (reply : Reply) → result_of look ≡ Ok reply → reply ≡ not_found want → (¬ Failed) × (¬ (Still trees store.parts begun now want id))
+      missing : (reply : Reply) → result_of look ≡ Ok reply → reply ≡ not_found want → (¬ Failed) × (¬ (Still trees store.parts since now want id))
       missing reply is same = missed (is ∙ ap Ok same)
 
       by : (wanted : Want) (reply : Reply) → want ≡ wanted → IsReplyTo wanted reply → result_of look ≡ Ok reply → Says (claim_of wanted reply)

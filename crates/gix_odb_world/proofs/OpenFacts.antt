@@ -133,8 +133,8 @@ module _ (first : Volume) where
       subst (λ past. Law first past e) (sym (front_of_front events at place (omega (arith, within)))) (lawful at e whole.1)
 
   pub openable : (store : Store) (events : List Event) (handle : ℕ) (modes : Modes) → IsLawful first events → Holds store events handle modes → IsOpenable events store
-  openable store events handle modes lawful (FromOpen step latest ignoring) = of_open events handle store lawful step
-  openable store events handle modes lawful (FromClone from place event parent there applied clones held latest ignoring) =
+  openable store events handle modes lawful (FromOpen step latest frozen ignoring) = of_open events handle store lawful step
+  openable store events handle modes lawful (FromClone from place event parent there applied clones held latest frozen ignoring) =
       let front = openable store (take place events) from parent (lawful_front events place lawful) held in
       let early = front.opened in
       let few = length_take events place event there in

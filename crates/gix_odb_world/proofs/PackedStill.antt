@@ -4,17 +4,21 @@ pub mod Answers
 pub mod Moments
 pub mod Contents
 pub mod Rule
-use Rattle.std.proofs.Common.{◌≡◌, ℕ, ◌≤◌, false, List, [], ◌∷◌, ◌++◌, length, Option, Ok, sym, ap, ◌∙◌, subst, append-nil, append_assoc, arith}
+use Rattle.std.proofs.Common.{◌≡◌, ℕ, ◌≤◌, Bool, true, false, List, [], ◌∷◌, ◌++◌, length, Option, Ok, inl, inr, refl, sym, ap, ◌∙◌, subst}
+use Rattle.std.proofs.Common.{append-nil, append_assoc, arith}
+use Rattle.std.specs.Prelude.{if◌then◌else◌}
 use Rattle.std.proofs.lemmas.Bool.{false_from_ne_true}
 use Rattle.odb_base.specs.Path.{Path}
 use Rattle.odb_disk.specs.Entries.{opened}
 use Rattle.odb_disk.specs.Tree.{tree_of}
 use Rattle.odb_disk.specs.Tree.Follow.{looked}
 use Rattle.odb_disk.specs.declared.entry.Entry.{Entry}
-use Rattle.odb_disk.specs.Ask.{answer_now, fails_now}
+use Rattle.odb_disk.specs.Ask.{answer_in, answer_now, fails_now}
 use Rattle.odb_disk.specs.MemDisk.{Volume}
+use Rattle.odb_disk.specs.declared.ask.DiskAnswer.TheVariants as answers
 use Rattle.odb_disk.specs.declared.ask.DiskAsk.{DiskAsk}
 use Rattle.odb_disk.specs.declared.ask.DiskAsk.TheVariants as asks
+use Rattle.odb_disk.specs.declared.disk_error.DiskError.TheVariants as errors
 use Rattle.gix_hash.specs.declared.kind.Kind.{Kind}
 use Rattle.gix_hash.specs.declared.object_id.ObjectId.{ObjectId}
 use Rattle.gix_odb_search.specs.PackFolder.{pack_folder}
@@ -24,6 +28,7 @@ use Rattle.gix_odb_events.specs.declared.answer.Ask.TheVariants as parts
 use Rattle.gix_odb.specs.LookExchanges.{Exchange}
 use Rattle.gix_odb.specs.Fair.{AreFair, IsDiskFair, IsFair, PackedPlace, carrier_name}
 use Rattle.gix_odb.specs.OpenStream.{ListsFile}
+use Rattle.gix_odb.specs.StillListed.{AreFairOrFailed, IsFairOrFailed}
 use Rattle.gix_odb.specs.Store.{listed_for}
 use Rattle.gix_odb.proofs.HandedLaws.{IsOwnStream}
 use Rattle.gix_odb.proofs.StreamLaws.Directories.{looked_file_is_listed}
@@ -52,6 +57,18 @@ AreFair-push multi hash id place past (first ∷ exchanges) exchange all one = (
   all.0,
   AreFair-push multi hash id place (past ++ first ∷ []) exchanges exchange all.1
       (subst (λ es. IsFair multi hash id place es exchange.ask exchange.answer) (sym (append_assoc past (first ∷ []) exchanges)) one),
+)
+
+-- and so where calls may have failed
+pub AreFairOrFailed-push : (multi : Option MultiUse) (hash : Kind) (id : ObjectId) (place : PackedPlace) (past exchanges : List Exchange) (exchange : Exchange)
+    → AreFairOrFailed multi hash id place past exchanges → IsFairOrFailed multi hash id place (past ++ exchanges) exchange.ask exchange.answer
+    → AreFairOrFailed multi hash id place past (exchanges ++ exchange ∷ [])
+AreFairOrFailed-push multi hash id place past [] exchange all one =
+    (subst (λ es. IsFairOrFailed multi hash id place es exchange.ask exchange.answer) (append-nil past) one, tt)
+AreFairOrFailed-push multi hash id place past (first ∷ exchanges) exchange all one = (
+  all.0,
+  AreFairOrFailed-push multi hash id place (past ++ first ∷ []) exchanges exchange all.1
+      (subst (λ es. IsFairOrFailed multi hash id place es exchange.ask exchange.answer) (sym (append_assoc past (first ∷ []) exchanges)) one),
 )
 
 -- ---- a call of the disk in a turn
@@ -109,3 +126,12 @@ module _ (first : Volume) (events : List Event) (e : Event) (handle : ℕ) (runn
       calls_are_fair running.store.parts id place disk (lies_now here) before ask
       (false_from_ne_true (fails_now disk ask) (λ fails. works (failed_now first events e handle running since ask turn fails)))
       (λ dir is. next_is_fair dir (own dir is))
+
+  -- it is fair, or it fails
+  pub told_fairly_or_failed : (ask : DiskAsk) → ((dir : ℕ) → ask ≡ asks.NextEntry dir → IsOwnStream before dir) → tree_at first events (length events) ≡ tree_of disk.state
+      → IsFairOrFailed multi hash id place before (parts.Disk ask) (told.Disk (answer_now disk ask))
+  told_fairly_or_failed ask own here = by (fails_now disk ask) refl
+    where
+      by : (b : Bool) → fails_now disk ask ≡ b → IsFairOrFailed multi hash id place before (parts.Disk ask) (told.Disk (answer_now disk ask))
+      by true fails = inr (ap (λ (b : Bool). if b then answers.Refused errors.Failed else answer_in (tree_of disk.state) disk.streams ask) fails)
+      by false works = inl (calls_are_fair running.store.parts id place disk (lies_now here) before ask works (λ dir is. next_is_fair dir (own dir is)))

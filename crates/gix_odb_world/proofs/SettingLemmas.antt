@@ -7,7 +7,7 @@ use Rattle.gix_odb.specs.declared.handle_state.HandleState.{HandleState}
 use Rattle.gix_odb_events.specs.declared.view.View.{View}
 use Rattle.gix_odb_world.specs.AtWork.{Modes, Store, setting_in}
 use Rattle.gix_odb_world.specs.Handle.{HandleParts, IsHandleOf, parts_of, seen, seen_at, setting_at}
-use Rattle.gix_odb_world.specs.Table.{PutsHandle, SetsHandle, ignoring_at, phase_of_handle, seen_ignoring, shared_with, with_ignoring}
+use Rattle.gix_odb_world.specs.Table.{PutsHandle, SetsHandle, frozen_at, ignoring_at, phase_of_handle, seen_frozen, seen_ignoring, shared_with, with_frozen, with_ignoring}
 use Rattle.gix_odb_world.specs.Valid.{why_not_idle}
 use Rattle.gix_odb_world.specs.World.{stored_at}
 use Rattle.gix_odb_world.specs.declared.course.Course.{Course}
@@ -36,6 +36,18 @@ sets_seen old new number handle puts = record {
   records = puts.records;
 }
 
+-- an idle handle that never refreshes its list is at rest
+pub frozen_seen : (handle : Option Handle) → why_not_idle (phase_of_handle (option_map seen handle)) ≡ None
+    → option_map seen (with_frozen handle) ≡ seen_frozen (option_map seen handle)
+frozen_seen None idle = absurd (cc idle)
+frozen_seen (Some handle) idle = by handle.core handle.at idle
+  where
+    by : (core : ℕ) (at : HandleAt) → why_not_idle (phase_of_handle (Some (seen_at core at))) ≡ None
+        → Some (seen_at core (frozen_at at)) ≡ seen_frozen (Some (seen_at core at))
+    by core (stands.Opening opening) idle = absurd (cc idle)
+    by core (stands.Resting state) idle = refl
+    by core (stands.Calling call) idle = absurd (cc idle)
+
 -- an idle handle that ignores replacements is at rest
 pub ignoring_seen : (handle : Option Handle) → why_not_idle (phase_of_handle (option_map seen handle)) ≡ None
     → option_map seen (with_ignoring handle) ≡ seen_ignoring (option_map seen handle)
@@ -52,9 +64,10 @@ ignoring_seen (Some handle) idle = by handle.core handle.at idle
 pub parts_alike : (core : ℕ) (one other : HandleState) → IsAlike one other → parts_of core one ≡ parts_of core other
 parts_alike core one other alike =
     ap (λ info. record (parts_of core one) { info = info }) alike.info
-    ∙ (ap (λ ignoring. record (parts_of core one) { info = other.info.value; ignoring = ignoring }) alike.ignoring
-    ∙ (ap (λ most. record (parts_of core one) { info = other.info.value; ignoring = other.ignore_replacements; max_changes = most }) alike.changes
-    ∙ ap (λ view. record (parts_of core other) { view = Some view }) alike.view))
+    ∙ (ap (λ refresh. record (parts_of core one) { info = other.info.value; refresh = refresh }) alike.refresh
+    ∙ (ap (λ ignoring. record (parts_of core one) { info = other.info.value; refresh = other.refresh; ignoring = ignoring }) alike.ignoring
+    ∙ (ap (λ most. record (parts_of core one) { info = other.info.value; refresh = other.refresh; ignoring = other.ignore_replacements; max_changes = most }) alike.changes
+    ∙ ap (λ view. record (parts_of core other) { view = Some view }) alike.view)))
 
 -- another handle on the store of one has what that has, except its snapshot
 pub shares_alike : (core : ℕ) (state other : HandleState) (view : View) (parent : Option Handle) → parent ≡ Some (record { core = core; at = stands.Resting state })

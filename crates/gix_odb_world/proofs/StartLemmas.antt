@@ -49,15 +49,16 @@ use Rattle.gix_odb_world.proofs.KnowsLemmas.{begins, runs-push}
 
 -- the work of the code is that of the store
 work_started : (store : Store) (modes : Modes) (state : HandleParts) (call : Call) → IsHandleOf store modes state
-    → Calling (calls.started (setting_at state) state.info.object_hash (view_at state) (sought_by state) call) ≡ begun_with store modes (MakeCall call)
+    → Calling (calls.started (setting_at state) state.info.object_hash state.refresh (view_at state) (sought_by state) call) ≡ begun_with store modes (MakeCall call)
 work_started store modes state call own =
-    ap (λ setting. Calling (calls.started setting state.info.object_hash (view_at state) (sought_by state) call)) (setting_same store modes state own)
-    ∙ (ap (λ (parts : StoreParts). Calling (calls.started (setting_in store) parts.object_hash (view_at state) (sought parts state.ignoring) call)) own.parts
-    ∙ (ap (λ view. Calling (calls.started (setting_in store) store.parts.object_hash (unwrap_or view unseen) (sought store.parts state.ignoring) call)) own.view
-    ∙ ap (λ ignoring. Calling (calls.started (setting_in store) store.parts.object_hash (view_in_modes modes) (sought store.parts ignoring) call)) own.ignoring))
+    ap (λ setting. Calling (calls.started setting state.info.object_hash state.refresh (view_at state) (sought_by state) call)) (setting_same store modes state own)
+    ∙ (ap (λ (parts : StoreParts). Calling (calls.started (setting_in store) parts.object_hash state.refresh (view_at state) (sought parts state.ignoring) call)) own.parts
+    ∙ (ap (λ mode. Calling (calls.started (setting_in store) store.parts.object_hash mode (view_at state) (sought store.parts state.ignoring) call)) own.refresh
+    ∙ (ap (λ view. Calling (calls.started (setting_in store) store.parts.object_hash modes.refresh (unwrap_or view unseen) (sought store.parts state.ignoring) call)) own.view
+    ∙ ap (λ ignoring. Calling (calls.started (setting_in store) store.parts.object_hash modes.refresh (view_in_modes modes) (sought store.parts ignoring) call)) own.ignoring)))
 
 matches_started : (n : ℕ) (call : Call) (status : Status) (handle : Seen) (work : Work) → why_not_start (phase_of_handle (Some handle)) call ≡ None
-    → work ≡ Calling (calls.started (setting_at handle.state) handle.state.info.object_hash (view_at handle.state) (sought_by handle.state) call)
+    → work ≡ Calling (calls.started (setting_at handle.state) handle.state.info.object_hash handle.state.refresh (view_at handle.state) (sought_by handle.state) call)
     → Matches status (Some handle) → Matches (started n call status) (with_work (Some work) (Some handle))
 matches_started n call Free handle work idle is match = absurd match
 matches_started n call (Resting store modes) handle work idle is match = (match.0, ap Some (is ∙ work_started store modes handle.state call match.0))
@@ -126,7 +127,7 @@ runs_started old number call sized reason first events e explains starts asked n
 
 begun : (old mid new : Course) (number : ℕ) (call : Call) (handle : Seen) (work : Work) → HasSize call
     → why_not_now old (steps.Start number call) ≡ None → handle_at old number ≡ Some handle
-    → work ≡ Calling (calls.started (setting_at handle.state) handle.state.info.object_hash (view_at handle.state) (sought_by handle.state) call)
+    → work ≡ Calling (calls.started (setting_at handle.state) handle.state.info.object_hash handle.state.refresh (view_at handle.state) (sought_by handle.state) call)
     → SetsHandle old mid number (with_work (Some work) (handle_at old number)) → Notes mid new outcomes.Applied Nothing None
     → Continues old (steps.Start number call) new
 begun old mid new number call handle work sized reason there is sets notes =
@@ -143,9 +144,9 @@ begun old mid new number call handle work sized reason there is sets notes =
 -- where the call is a copy
 pub begun_by : (old mid new : Course) (number : ℕ) (copy call : Call) (handle : Seen) (work : Work) → copy ≡ call → HasSize copy
     → why_not_now old (steps.Start number call) ≡ None → handle_at old number ≡ Some handle
-    → work ≡ Calling (calls.started (setting_at handle.state) handle.state.info.object_hash (view_at handle.state) (sought_by handle.state) copy)
+    → work ≡ Calling (calls.started (setting_at handle.state) handle.state.info.object_hash handle.state.refresh (view_at handle.state) (sought_by handle.state) copy)
     → SetsHandle old mid number (with_work (Some work) (handle_at old number)) → Notes mid new outcomes.Applied Nothing None
     → Continues old (steps.Start number call) new
 begun_by old mid new number copy call handle work same sized reason there is sets notes =
     begun old mid new number call handle work (subst HasSize same sized) reason there
-    (is ∙ ap (λ own. Calling (calls.started (setting_at handle.state) handle.state.info.object_hash (view_at handle.state) (sought_by handle.state) own)) same) sets notes
+    (is ∙ ap (λ own. Calling (calls.started (setting_at handle.state) handle.state.info.object_hash handle.state.refresh (view_at handle.state) (sought_by handle.state) own)) same) sets notes

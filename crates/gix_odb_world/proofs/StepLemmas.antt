@@ -67,6 +67,7 @@ why_not-same first events world (steps.Clone handle from) explains =
     ap (λ phase. why_not_clone phase (phase_after events from)) (phase_same first events world handle explains)
     ∙ ap (why_not_clone (phase_now world handle)) (phase_same first events world from explains)
 why_not-same first events world (steps.Close handle) explains = ap why_not_idle (phase_same first events world handle explains)
+why_not-same first events world (steps.Never handle) explains = ap why_not_idle (phase_same first events world handle explains)
 why_not-same first events world (steps.Ignore handle) explains = ap why_not_idle (phase_same first events world handle explains)
 why_not-same first events world (steps.Start handle call) explains = ap (λ phase. why_not_start phase call) (phase_same first events world handle explains)
 why_not-same first events world (steps.Turn handle) explains = ap why_not_running (phase_same first events world handle explains)

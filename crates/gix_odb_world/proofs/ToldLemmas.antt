@@ -69,6 +69,7 @@ turned_step handle (steps.Turn other) is = ap steps.Turn (sym (eqb-true handle o
 turned_step handle (steps.Open other path folders hash replacements options) is = absurd (false≢true is)
 turned_step handle (steps.Clone other from) is = absurd (false≢true is)
 turned_step handle (steps.Close other) is = absurd (false≢true is)
+turned_step handle (steps.Never other) is = absurd (false≢true is)
 turned_step handle (steps.Ignore other) is = absurd (false≢true is)
 turned_step handle (steps.Start other call) is = absurd (false≢true is)
 turned_step handle (steps.Disk change) is = absurd (false≢true is)

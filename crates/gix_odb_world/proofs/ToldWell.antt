@@ -1,6 +1,7 @@
 -- The answers to the handle of a query are true of the run: where the query begins, and after an event in which it is answered nothing.
 pub mod Numbers
 pub mod Turn
+pub mod Listed
 use Rattle.std.proofs.Common.{◌≡◌, ℕ, ◌+◌, ◌<◌, ◌≤◌, List, [], ◌∷◌, ◌++◌, length, Contains, None, Ok, refl, sym, ◌∙◌, ap, subst, arith}
 use Rattle.std.specs.Prelude.{unwrap_or}
 use Rattle.std.proofs.lemmas.List.{length_push}
@@ -17,6 +18,7 @@ use Rattle.gix_odb_events.specs.declared.answer.Ask.TheVariants as parts
 use Rattle.gix_odb_calls.specs.declared.call.Call.{Call}
 use Rattle.gix_odb.specs.LookExchanges.{AreAnswered, HasFailed, WasTold}
 use Rattle.gix_odb.specs.Fair.{AreFair}
+use Rattle.gix_odb.specs.StillListed.{AreFairOrFailed, AreListed}
 use Rattle.gix_odb.specs.Laps.{AreNumbered, AreWithin}
 use Rattle.gix_odb.specs.Shown.{IsShownView}
 use Rattle.gix_odb.specs.Store.{listed_for}
@@ -117,6 +119,12 @@ module _ (first : Volume) (events : List Event) (e : Event) where
         fair = λ id place works still.
             subst (AreFair (listed_for store.parts).multi store.parts.object_hash id place []) (sym same)
             (well.fair id place (λ failed. works (failed-kept events e handle begun failed)) (still_before first events e store begun id place still));
+        met = λ id place still.
+            subst (AreFairOrFailed (listed_for store.parts).multi store.parts.object_hash id place []) (sym same)
+            (well.met id place (still_before first events e store begun id place still));
+        listed = λ id place among still.
+            subst (AreListed (listed_for store.parts).multi store.parts.object_hash id place) (sym same)
+            (well.listed id place among (still_before first events e store store.opened id place still));
       }
 
   -- ---- where a query begins
@@ -146,4 +154,6 @@ module _ (first : Volume) (events : List Event) (e : Event) where
         given = λ ask answer was. absurd (nothing_among _ (subst (λ xs. WasTold xs (parts.Disk ask) (told.Disk answer)) none was));
         failures = λ failed. absurd (none_failed_yet whole handle (length events + 1) (omega (arith, longer)) failed);
         fair = λ id place works still. subst (AreFair (listed_for store.parts).multi store.parts.object_hash id place []) (sym none) tt;
+        met = λ id place still. subst (AreFairOrFailed (listed_for store.parts).multi store.parts.object_hash id place []) (sym none) tt;
+        listed = λ id place among still exchange is. absurd (nothing_among exchange (subst (λ xs. Contains xs exchange) none is));
       }

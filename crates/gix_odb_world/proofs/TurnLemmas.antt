@@ -71,6 +71,7 @@ handle_after store modes state OfNothing own = own
 handle_after store modes state (OfDisk ask answer) own = own
 handle_after store modes state (OfCore number seat happens answer) own = record {
   parts = own.parts;
+  refresh = own.refresh;
   ignoring = own.ignoring;
   changes = own.changes;
   core = own.core;
@@ -78,6 +79,7 @@ handle_after store modes state (OfCore number seat happens answer) own = record 
 }
 handle_after store modes state (OfNewCore slots folders number seat answer) own = record {
   parts = own.parts;
+  refresh = own.refresh;
   ignoring = own.ignoring;
   changes = own.changes;
   core = refl;

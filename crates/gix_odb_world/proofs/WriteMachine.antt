@@ -28,7 +28,6 @@ use Rattle.gix_odb.specs.declared.refresh.RefreshStep.TheVariants as fronts
 use Rattle.gix_odb.specs.CallOrder as calls
 use Rattle.gix_odb.specs.Contents.{folder_list}
 use Rattle.gix_odb.specs.CallOrder.{fronted, loose_ask, result_of_write, writing_result, written_on}
-use Rattle.gix_odb.specs.declared.call_state.CallStage.TheVariants.{Refused}
 use Rattle.gix_odb_world.specs.Handle.{HandleParts, IsHandleOf}
 use Rattle.gix_odb_world.specs.AtWork.{Modes, setting_in}
 use Rattle.gix_odb.specs.Laps.{turns_of_lap}

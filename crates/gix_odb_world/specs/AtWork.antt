@@ -3,6 +3,8 @@ use Rattle.std.specs.Prelude.{ℕ, Bool, true, false, Option, None, unwrap_or}
 use Rattle.gix_odb_events.specs.declared.view.View.{View}
 use Rattle.gix_odb.specs.HandleState.{unseen}
 use Rattle.gix_odb.specs.LookUpOrder.{Setting}
+use Rattle.gix_odb.specs.declared.refresh_mode.RefreshMode.{RefreshMode}
+use Rattle.gix_odb.specs.declared.refresh_mode.RefreshMode.TheVariants.{AfterAllIndicesLoaded, Never}
 use Rattle.gix_odb_calls.specs.declared.call.Call.{Call}
 use Rattle.gix_odb_calls.specs.declared.store_parts.StoreParts.{StoreParts}
 use Rattle.gix_odb_events.specs.Answers.{view_in}
@@ -26,10 +28,11 @@ pub data Task : Type 0 where
   OpenStore : Task
   MakeCall : (call : Call) → Task
 
--- What a handle has of its own: its modes, which are whether it ignores replacements (another mode is one more field); and of the
+-- What a handle has of its own: its modes, which are whether it refreshes its list, and whether it ignores replacements; and of the
 -- core of its store the core's number, how many slots it was made with, and its snapshot, which is the view that the core last passed to
 -- it. Before its opening registered it there it has number 0, no slots and no snapshot.
 pub record Modes : Type 0 where
+  pub refresh : RefreshMode
   pub ignoring : Bool
   pub core : ℕ
   pub slots : ℕ
@@ -41,7 +44,11 @@ view_in_modes modes = unwrap_or modes.view unseen
 
 -- the modes of a handle whose store was just opened
 abbrev pub modes_at_opening : Modes
-modes_at_opening = record { ignoring = false; core = 0; slots = 0; view = None }
+modes_at_opening = record { refresh = AfterAllIndicesLoaded; ignoring = false; core = 0; slots = 0; view = None }
+
+-- the modes of a handle that never refreshes its list from now on
+abbrev pub now_frozen : Modes → Modes
+now_frozen modes = record modes { refresh = Never }
 
 -- the modes of a handle that ignores replacements from now on
 abbrev pub now_ignoring : Modes → Modes

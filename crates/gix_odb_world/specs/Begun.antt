@@ -12,6 +12,7 @@ use Rattle.gix_odb_calls.specs.declared.step.Outcome.TheVariants as outcomes
 use Rattle.gix_odb_history.specs.Event.{Event}
 pub use Rattle.gix_odb_history.specs.Turned.{is_turn_of}
 use Rattle.gix_odb_world.specs.Status.{MakeCall, OpenStore, Store, Task, Modes}
+use Rattle.gix_odb.specs.declared.refresh_mode.RefreshMode.TheVariants.{Never}
 
 -- the event that has the number `begun` was applied, and started a call on a handle
 pub record BegunBy (events : List Event) (handle begun : ℕ) (call : Call) : Type 0 where
@@ -63,6 +64,10 @@ IsTaskOf handle (steps.Clone other from) = other ≡ handle
 IsTaskOf handle (steps.Start other call) = other ≡ handle
 IsTaskOf handle step = ⊥
 
+abbrev pub IsNeverOf : (handle : ℕ) → Step → Type 0
+IsNeverOf handle (steps.Never other) = other ≡ handle
+IsNeverOf handle step = ⊥
+
 abbrev pub IsIgnoreOf : (handle : ℕ) → Step → Type 0
 IsIgnoreOf handle (steps.Ignore other) = other ≡ handle
 IsIgnoreOf handle step = ⊥
@@ -81,16 +86,19 @@ pub record AppliedSince (P : Step → Type 0) (events : List Event) (number : �
   pub step : P event.step
 
 -- A handle has its store by the latest step that began it: by its open step, or as a clone of a handle that had the store then. Its modes
--- are those of the steps since: it ignores replacements from an `Ignore` step on, and a clone of a handle that ignored them does too.
+-- are those of the steps since: it never refreshes its list from a `Never` step on, and ignores replacements from an `Ignore` step on; and a
+-- clone has the modes that its parent had then.
 pub data Holds (store : Store) : List Event → (handle : ℕ) → (modes : Modes) → Type 0 where
   FromOpen : {events : List Event} {handle : ℕ} {modes : Modes} (step : IsOpenStore events handle store)
       (latest : NoneSince (IsOpenOf handle) events store.opened)
+      (frozen : (modes.refresh ≡ Never) ↔ AppliedSince (IsNeverOf handle) events store.opened)
       (ignoring : (modes.ignoring ≡ true) ↔ AppliedSince (IsIgnoreOf handle) events store.opened)
       → Holds store events handle modes
   FromClone : {events : List Event} {handle : ℕ} {modes : Modes} (from place : ℕ) (event : Event) (parent : Modes)
       (there : slice_get events place ≡ Some event) (applied : event.outcome ≡ outcomes.Applied)
       (clones : event.step ≡ steps.Clone handle from) (held : Holds store (take place events) from parent)
       (latest : NoneSince (IsOpenOf handle) events (place + 1))
+      (frozen : (modes.refresh ≡ Never) ↔ ((parent.refresh ≡ Never) ⊎ AppliedSince (IsNeverOf handle) events (place + 1)))
       (ignoring : (modes.ignoring ≡ true) ↔ ((parent.ignoring ≡ true) ⊎ AppliedSince (IsIgnoreOf handle) events (place + 1)))
       → Holds store events handle modes
 

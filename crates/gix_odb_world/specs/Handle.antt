@@ -8,6 +8,8 @@ use Rattle.gix_odb.specs.HandleState.{unseen}
 use Rattle.gix_odb.specs.OpenOrder.{started}
 use Rattle.gix_odb.specs.declared.handle_state.HandleState.{HandleState}
 use Rattle.gix_odb.specs.declared.open_state.OpenState.{OpenState}
+use Rattle.gix_odb.specs.declared.refresh_mode.RefreshMode.{RefreshMode}
+use Rattle.gix_odb.specs.declared.refresh_mode.RefreshMode.TheVariants.{AfterAllIndicesLoaded}
 use Rattle.gix_odb_calls.specs.StoreParts.{parts_of_store}
 use Rattle.gix_odb_calls.specs.declared.init.Options.{Options}
 use Rattle.gix_odb_calls.specs.declared.query.Query.{Query}
@@ -27,6 +29,7 @@ use Rattle.gix_odb_world.specs.declared.handle.HandleAt.TheVariants as stands
 -- store is opening the number is 0, and there is no snapshot.
 pub record HandleParts : Type 0 where
   pub info : StoreParts
+  pub refresh : RefreshMode
   pub ignoring : Bool
   pub max_changes : ℕ
   pub core : ℕ
@@ -38,10 +41,18 @@ pub record Seen : Type 0 where
   pub work : Option Work
 
 abbrev pub opening_parts : (core : ℕ) → OpenState → HandleParts
-opening_parts core opening = record { info = opening.info.value; ignoring = false; max_changes = opening.max_changes; core = core; view = None }
+opening_parts core opening =
+    record { info = opening.info.value; refresh = AfterAllIndicesLoaded; ignoring = false; max_changes = opening.max_changes; core = core; view = None }
 
 abbrev pub parts_of : (core : ℕ) → HandleState → HandleParts
-parts_of core state = record { info = state.info.value; ignoring = state.ignore_replacements; max_changes = state.max_changes; core = core; view = Some state.view }
+parts_of core state = record {
+  info = state.info.value;
+  refresh = state.refresh;
+  ignoring = state.ignore_replacements;
+  max_changes = state.max_changes;
+  core = core;
+  view = Some state.view;
+}
 
 abbrev pub seen_at : (core : ℕ) → HandleAt → Seen
 seen_at core (stands.Opening opening) = record { state = opening_parts core opening; work = Some (Opening opening.stage) }
@@ -77,6 +88,7 @@ pub record Begins (objects : Path) (folders : List Path) (hash : HashKind) (repl
 -- the handle is one of the store, in these modes
 pub record IsHandleOf (store : Store) (modes : Modes) (handle : HandleParts) : Type 0 where
   pub parts : handle.info ≡ store.parts
+  pub refresh : handle.refresh ≡ modes.refresh
   pub ignoring : handle.ignoring ≡ modes.ignoring
   pub changes : handle.max_changes ≡ store.max_changes
   pub core : handle.core ≡ modes.core

@@ -1,7 +1,7 @@
 -- What is promised of every run: for every disk, options and list of steps there is one outcome for each step;
--- what is found was held by the store's files, a not-found means that no sound object stayed unchanged throughout, a write
--- gives its object its name last and makes only five kinds of changes to the tree, each call ends within its bound, and each
--- error has its cause.
+-- what is found was held by the store's files, a not-found means that no sound object stayed unchanged throughout, or since the opening
+-- where the handle never refreshes its list; a write gives its object its name last and makes only five kinds of changes to the tree,
+-- each call ends within its bound, and each error has its cause.
 use Rattle.std.specs.Prelude.{◌≡◌, false, ℕ, All, ◌+◌, ◌<◌, List, [], ◌∷◌, ◌++◌, map, length, take, slice_get, Option, Some, Result, Ok, Err}
 use Rattle.odb_base.specs.Path.{Path}
 use Rattle.odb_disk.specs.Ask.{fails_now}

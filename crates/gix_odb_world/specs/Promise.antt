@@ -14,6 +14,8 @@ use Rattle.gix_odb_calls.specs.Query.{by_call}
 use Rattle.gix_odb.specs.Contents.{Answer, Object, HeaderOf, Presence, folder_list, sought}
 use Rattle.gix_odb.specs.Held.{Held, Still}
 use Rattle.gix_odb.specs.LookExchanges.{Exchange}
+use Rattle.gix_odb.specs.RefreshMode.{by_mode}
+use Rattle.gix_odb.specs.declared.refresh_mode.RefreshMode.{RefreshMode}
 use Rattle.gix_odb_history.specs.Event.{CoreAnswer, Event, OfNewCore}
 use Rattle.gix_odb_events.specs.declared.event.Refusal.{Refusal}
 use Rattle.gix_odb_world.specs.Refused.{RefusedSince}
@@ -44,11 +46,16 @@ pub record Opens (events : List Event) (trees : ℕ → Tree) (told : List Excha
   pub not_too_many : slots ≤ most_slots
   pub directory : Sometime begun now (λ moment. ShowsDirectory (trees moment) store.parts.objects)
 
+-- The moment from which an object has to stay unchanged, to be found by a call: its start; or, by a handle that never refreshes its list, the
+-- store's opening.
+abbrev pub still_from : RefreshMode → Store → (begun : ℕ) → ℕ
+still_from mode store begun = by_mode store.opened begun mode
+
 -- A reply that the object isn't there: no call of the disk failed in the call, and no sound object of the id stayed
--- unchanged throughout.
-pub record Misses (trees : ℕ → Tree) (Failed : Type 0) (store : Store) (begun now : ℕ) (want : Want) (id : ObjectId) : Type 0 where
+-- unchanged throughout, or since the store was opened.
+pub record Misses (trees : ℕ → Tree) (Failed : Type 0) (store : Store) (mode : RefreshMode) (begun now : ℕ) (want : Want) (id : ObjectId) : Type 0 where
   pub no_failure : ¬ Failed
-  pub none_still : ¬ Still trees store.parts begun now want id
+  pub none_still : ¬ Still trees store.parts (still_from mode store begun) now want id
 
 -- what a reply claims of its call: an answer that was held, that the object isn't there, an error with its cause; or
 -- that the call never ends with it
@@ -71,11 +78,11 @@ claim_of want reply = Never
 
 -- What a claim says, of the sought id, of a query with these answers to its handle since it began. The store was opened at the moment after its
 -- open step.
-abbrev pub Keeps : (ℕ → Tree) → Type 0 → (Refused : Refusal → Type 0) → (told : List Exchange) → Store → ℕ → ℕ → Want → ObjectId → Claim → Type 0
-Keeps trees Failed Refused told store begun now want id (Holding answer) = Held trees store.parts store.opened begun now want id answer
-Keeps trees Failed Refused told store begun now want id Missing = Misses trees Failed store begun now want id
-Keeps trees Failed Refused told store begun now want id (Caused error) = FindCause trees Failed Refused told store begun now want id error
-Keeps trees Failed Refused told store begun now want id Never = ⊥
+abbrev pub Keeps : (ℕ → Tree) → Type 0 → (Refused : Refusal → Type 0) → (told : List Exchange) → Store → RefreshMode → ℕ → ℕ → Want → ObjectId → Claim → Type 0
+Keeps trees Failed Refused told store mode begun now want id (Holding answer) = Held trees store.parts store.opened begun now want id answer
+Keeps trees Failed Refused told store mode begun now want id Missing = Misses trees Failed store mode begun now want id
+Keeps trees Failed Refused told store mode begun now want id (Caused error) = FindCause trees Failed Refused told store begun now want id error
+Keeps trees Failed Refused told store mode begun now want id Never = ⊥
 
 -- What a reply to an opening promises, with these answers to its handle since it began. A reply that an opening never ends with promises what
 -- nothing can keep.
@@ -86,7 +93,7 @@ OpeningPromise events trees Failed told store begun now reply = ⊥
 
 -- What the reply to a query promises, of the id that it seeks.
 abbrev pub QueryPromise : (ℕ → Tree) → Type 0 → (Refused : Refusal → Type 0) → (told : List Exchange) → Store → (modes : Modes) → ℕ → ℕ → Query → Reply → Type 0
-QueryPromise trees Failed Refused told store modes begun now query reply = Keeps trees Failed Refused told store begun now query.want (sought store.parts modes.ignoring query) (claim_of query.want reply)
+QueryPromise trees Failed Refused told store modes begun now query reply = Keeps trees Failed Refused told store modes.refresh begun now query.want (sought store.parts modes.ignoring query) (claim_of query.want reply)
 
 -- What a reply that the last event gives promises, by the task with which the handle began.
 abbrev pub Promise : Volume → List Event → (handle : ℕ) → Store → (modes : Modes) → ℕ → Task → Reply → Type 0

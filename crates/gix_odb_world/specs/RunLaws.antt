@@ -29,6 +29,7 @@ use Rattle.gix_odb_calls.specs.declared.call.Reply.TheVariants as replies
 use Rattle.gix_odb_calls.specs.declared.query.Query.{Query}
 use Rattle.gix_odb_calls.specs.declared.step.Outcome.TheVariants as outcomes
 use Rattle.gix_odb.specs.LookUpOrder.{not_found}
+use Rattle.gix_odb.specs.declared.refresh_mode.RefreshMode.TheVariants.{AfterAllIndicesLoaded}
 use Rattle.gix_odb.specs.Shown.{IsIndexPath}
 use Rattle.gix_odb.specs.AtHand.{IsAtHand}
 use Rattle.gix_odb.specs.JustRead.{IsPackPath}
@@ -87,16 +88,17 @@ pub record KeepsRunLaws (first : Volume) (events : List Event) : Type 0 where
       → (kind : Kind) (bytes : List ℕ) → e.outcome ≡ outcomes.Reply (replies.Found kind bytes)
       → ObjectsHash (tree_at first events) (length events) running.store
       → object_id running.store.parts.object_hash kind bytes ≡ sought running.store.parts running.modes.ignoring (find_of asked)
-  -- A query doesn't end with "not found", in a store whose list had been read as the query began, while its object moves from a loose file of a
+  -- A query of a handle that refreshes its list doesn't end with "not found", in a store whose list had been read as the query began, while its object
+  -- moves from a loose file of a
   -- folder into a pack there.
   pub moved_found : (place : ℕ) (e : Event) (handle : ℕ) (running : Running) (query : Query) → IsQueryTurn events place e handle running query
-      → HadPublished events running.modes.core running.begun
+      → running.modes.refresh ≡ AfterAllIndicesLoaded → HadPublished events running.modes.core running.begun
       → HasMoved (tree_at first events) running.store.parts running.begun (place + 1) query.want (sought running.store.parts running.modes.ignoring query)
       → ¬ (e.outcome ≡ outcomes.Reply (not_found query.want))
-  -- A query that ends with "not found" ended with a read of the core's state, whose view has the number of the list that the core
+  -- A query of a handle that refreshes its list and that ends with "not found" ended with a read of the core's state, whose view has the number of the list that the core
   -- published or confirmed last for it.
   pub misses_at_last_list : (place : ℕ) (e : Event) (handle : ℕ) (running : Running) (query : Query) → IsQueryTurn events place e handle running query
-      → e.outcome ≡ outcomes.Reply (not_found query.want) → EndAtLastList (told_since (take (place + 1) events) handle running.begun)
+      → running.modes.refresh ≡ AfterAllIndicesLoaded → e.outcome ≡ outcomes.Reply (not_found query.want) → EndAtLastList (told_since (take (place + 1) events) handle running.begun)
   -- turns of one handle that are all pending, one after another, are fewer than the bound of its task, with those that it took for the task before
   pub pending_in_time : (handle from count : ℕ) → 0 < count → ArePending events handle from count → AreInTime first events handle from count
   -- where a turn ends a task, and the run up to it shows the cause of no error of the task, the answer is the task's own and no refusal

@@ -13,7 +13,7 @@ use Rattle.gix_odb_calls.specs.declared.call.Reply.{Reply}
 use Rattle.gix_odb_calls.specs.declared.call.Reply.TheVariants as replies
 use Rattle.gix_odb_calls.specs.declared.init.Options.{Options}
 use Rattle.gix_odb.specs.declared.open_state.OpenStage.TheVariants.{Looking}
-pub use Rattle.gix_odb_world.specs.AtWork.{Store, Task, OpenStore, MakeCall, Modes, Running, modes_after, modes_at_opening, now_ignoring, setting_in, view_in_modes}
+pub use Rattle.gix_odb_world.specs.AtWork.{Store, Task, OpenStore, MakeCall, Modes, Running, modes_after, modes_at_opening, now_frozen, now_ignoring, setting_in, view_in_modes}
 use Rattle.gix_odb_world.specs.Machines.{fed_in, write_in}
 use Rattle.gix_odb_calls.specs.declared.step.Step.{Step}
 use Rattle.gix_odb_calls.specs.declared.step.Step.TheVariants as steps
@@ -47,7 +47,7 @@ store_at number path folders hash replacements options = record {
 -- the work with which a task of a store's handle begins
 abbrev pub begun_with : Store → (modes : Modes) → Task → Work
 begun_with store modes OpenStore = Opening Looking
-begun_with store modes (MakeCall call) = Calling (calls.started (setting_in store) store.parts.object_hash (view_in_modes modes) (sought store.parts modes.ignoring) call)
+begun_with store modes (MakeCall call) = Calling (calls.started (setting_in store) store.parts.object_hash modes.refresh (view_in_modes modes) (sought store.parts modes.ignoring) call)
 
 -- what a store's handle is at whose task is set by the event that has a number
 abbrev pub running_from : ℕ → Task → Store → (modes : Modes) → Running
@@ -57,6 +57,11 @@ running_from number task store modes =
 -- an opening works from its step on
 abbrev pub opening_at : ℕ → Store → Status
 opening_at number store = Working (running_from number OpenStore store modes_at_opening)
+
+-- an idle handle never refreshes its list from now on
+abbrev pub frozen_from : Status → Status
+frozen_from (Resting store modes) = Resting store (now_frozen modes)
+frozen_from status = status
 
 -- an idle handle ignores replacements from now on
 abbrev pub ignoring_from : Status → Status
@@ -113,6 +118,7 @@ applied number asked (steps.Open handle path folders hash replacements options) 
     with_status table handle (opening_at number (store_at number path folders hash replacements options))
 applied number asked (steps.Clone handle from) table = with_status table handle (cloned asked (table from))
 applied number asked (steps.Close handle) table = with_status table handle Free
+applied number asked (steps.Never handle) table = with_status table handle (frozen_from (table handle))
 applied number asked (steps.Ignore handle) table = with_status table handle (ignoring_from (table handle))
 applied number asked (steps.Start handle call) table = with_status table handle (started number call (table handle))
 applied number asked step table = table

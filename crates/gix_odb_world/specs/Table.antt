@@ -31,6 +31,7 @@ use Rattle.gix_odb_events.specs.declared.answer.Ask.TheVariants as asks
 use Rattle.gix_odb.specs.LookExchanges.{IsAnswerTo}
 use Rattle.gix_odb.specs.LookUpOrder.{view_of}
 use Rattle.gix_odb.specs.declared.open_state.OpenStage.TheVariants as opens
+use Rattle.gix_odb.specs.declared.refresh_mode.RefreshMode.TheVariants.{Never}
 use Rattle.gix_odb_world.specs.Work.{Opening}
 use Rattle.gix_odb_world.specs.declared.turn.Carried.{Carried as Done}
 use Rattle.gix_odb_world.specs.declared.turn.Told.{Told}
@@ -71,6 +72,7 @@ abbrev pub why_not_now : Course → Step → Option Why
 why_not_now world (steps.Open handle path folders hash replacements options) = why_not_open (phase_now world handle) (is_openable path folders hash replacements options.max_changes)
 why_not_now world (steps.Clone handle from) = why_not_clone (phase_now world handle) (phase_now world from)
 why_not_now world (steps.Close handle) = why_not_idle (phase_now world handle)
+why_not_now world (steps.Never handle) = why_not_idle (phase_now world handle)
 why_not_now world (steps.Ignore handle) = why_not_idle (phase_now world handle)
 why_not_now world (steps.Start handle call) = why_not_start (phase_now world handle) call
 why_not_now world (steps.Turn handle) = why_not_running (phase_now world handle)
@@ -117,6 +119,24 @@ calling_handle call handle = record handle { at = stands.Calling call }
 abbrev pub with_call : CallState → Option Handle → Option Handle
 with_call call None = None
 with_call call (Some handle) = Some (calling_handle call handle)
+
+-- a handle that never refreshes its list, if it is at rest
+abbrev pub frozen_at : HandleAt → HandleAt
+frozen_at (stands.Opening opening) = stands.Opening opening
+frozen_at (stands.Resting state) = stands.Resting (record state { refresh = Never })
+frozen_at (stands.Calling call) = stands.Calling call
+
+abbrev pub frozen_handle : Handle → Handle
+frozen_handle handle = record handle { at = frozen_at handle.at }
+
+-- the handle as proofs see it never refreshes its list, if it is at rest
+abbrev pub seen_frozen : Option Seen → Option Seen
+seen_frozen None = None
+seen_frozen (Some handle) = Some (record handle { state = record handle.state { refresh = Never } })
+
+abbrev pub with_frozen : Option Handle → Option Handle
+with_frozen None = None
+with_frozen (Some handle) = Some (frozen_handle handle)
 
 -- a handle that ignores replacements, if it is at rest
 abbrev pub ignoring_at : HandleAt → HandleAt

@@ -47,7 +47,7 @@ view_then events handle core number = unwrap_or (snapshot_of handle (history_at 
 -- the look-up with which a query of a handle began at the event that has a number
 abbrev pub look_begun : List Event → (handle : ℕ) → Store → Modes → (begun : ℕ) → Query → LookUp
 look_begun events handle store modes begun query =
-    started (setting_in store) (view_then events handle modes.core begun) query.want (sought store.parts modes.ignoring query)
+    started (setting_in store) modes.refresh (view_then events handle modes.core begun) query.want (sought store.parts modes.ignoring query)
 
 -- and its state after all answers to the handle since then
 abbrev pub look_now : List Event → (handle : ℕ) → Store → Modes → (begun : ℕ) → Query → LookUp

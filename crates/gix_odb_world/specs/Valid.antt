@@ -111,6 +111,7 @@ abbrev pub why_not_after : Volume → List Event → Step → Option Why
 why_not_after first events (steps.Open handle path folders hash replacements options) = why_not_open (phase_after events handle) (is_openable path folders hash replacements options.max_changes)
 why_not_after first events (steps.Clone handle from) = why_not_clone (phase_after events handle) (phase_after events from)
 why_not_after first events (steps.Close handle) = why_not_idle (phase_after events handle)
+why_not_after first events (steps.Never handle) = why_not_idle (phase_after events handle)
 why_not_after first events (steps.Ignore handle) = why_not_idle (phase_after events handle)
 why_not_after first events (steps.Start handle call) = why_not_start (phase_after events handle) call
 why_not_after first events (steps.Turn handle) = why_not_running (phase_after events handle)

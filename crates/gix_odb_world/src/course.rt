@@ -123,6 +123,7 @@ impl Course {
             } => self.open(alloc, *handle, path, folders, *hash, replacements, *options),
             Step::Clone { handle, from } => self.share(alloc, *handle, *from),
             Step::Close { handle } => self.close(alloc, *handle),
+            Step::Never { handle } => self.freeze(*handle),
             Step::Ignore { handle } => self.ignore(*handle),
             Step::Start { handle, call } => self.start(alloc, *handle, call),
             Step::Turn { handle } => self.turn(alloc, *handle),
@@ -237,6 +238,18 @@ impl Course {
         let did = removed(alloc, &mut self.cores, core, number);
         self.remove(number);
         self.note(Outcome::Applied, did, None)
+    }
+
+    /// Lets an idle handle answer from the list of its store as it is from now on.
+    fn freeze(&mut self, number: u32) -> Result<(), NoMemory>
+        ensures continues { OnOk result (Continues self.old (Step.Never number) self.new) }
+        ensures noted { OnOk result (HasOneMore self.old self.new) }
+    {
+        if let Some(why) = self.why_not_idle(number) {
+            return self.misuse(why);
+        }
+        self.set_frozen(number);
+        self.note(Outcome::Applied, Did::Nothing, None)
     }
 
     /// Lets an idle handle ignore replacements from now on.

@@ -2,7 +2,7 @@
 ghost use Rattle.std.specs.Prelude.{◌≡◌, IfOk, Some};
 ghost use Rattle.std.specs.Option.{option_map};
 ghost use Rattle.gix_odb_world.specs.Handle.{seen};
-ghost use Rattle.gix_odb_world.specs.Table.{ask_by_handle, calling_handle, ignoring_handle, opened_by};
+ghost use Rattle.gix_odb_world.specs.Table.{ask_by_handle, calling_handle, frozen_handle, ignoring_handle, opened_by};
 
 use gix_odb::{CallState, HandleState, OpenState};
 use gix_odb_events::Ask;
@@ -70,6 +70,15 @@ impl Handle {
         }
     }
 
+    /// Makes a handle at rest answer from the list of its store as it is from now on.
+    pub fn freeze(&mut self)
+        ensures frozen { self.new ≡ frozen_handle self.old }
+    {
+        if let HandleAt::Resting(state) = &mut self.at {
+            state.refresh.never();
+        }
+    }
+
     /// Makes a handle at rest ignore replacements from now on.
     pub fn ignore(&mut self)
         ensures ignoring { self.new ≡ ignoring_handle self.old }
@@ -114,6 +123,13 @@ impl BoxedHandle {
         ensures calling { self.new ≡ calling_handle call self.old }
     {
         self.owner.begin(call);
+    }
+
+    /// Makes a handle at rest answer from the list of its store as it is from now on.
+    pub fn freeze(&mut self)
+        ensures frozen { self.new ≡ frozen_handle self.old }
+    {
+        self.owner.freeze();
     }
 
     /// Makes a handle at rest ignore replacements from now on.

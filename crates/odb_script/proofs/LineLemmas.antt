@@ -161,6 +161,12 @@ item_of-finish handle small =
     item_of-line_of 102 (codes "inish") (decimal handle ∷ []) refl (IsField-word (codes "finish") refl refl, (IsField-decimal handle (omega arith), tt))
     ∙ rw (handle_of-decimal handle small) refl
 
+pub item_of-never : (handle : ℕ) → handle < 2 ^ 32 → item_of (line_of (codes "never" ∷ decimal handle ∷ [])) ≡ items.Play (One (steps.Never handle))
+unfolding word_of line_item
+item_of-never handle small =
+    item_of-line_of 110 (codes "ever") (decimal handle ∷ []) refl (IsField-word (codes "never") refl refl, (IsField-decimal handle (omega arith), tt))
+    ∙ rw (handle_of-decimal handle small) refl
+
 pub item_of-ignore : (handle : ℕ) → handle < 2 ^ 32 → item_of (line_of (codes "ignore" ∷ decimal handle ∷ [])) ≡ items.Play (One (steps.Ignore handle))
 unfolding word_of line_item
 item_of-ignore handle small =

@@ -67,6 +67,7 @@ no_fault (Some words.Clone) fields none h = clone fields (all_spelled (expected_
     clone (handle ∷ from ∷ []) all h = let hd = some_is (handle_of handle) all.0 in let f = some_is (handle_of from) all.1.0 in cc (rw (hd.1, f.1) at h)
     clone (handle ∷ from ∷ more ∷ rest) all h = absurd all.1.1
 no_fault (Some words.Close) fields none h = one _ fields (λ handle e. cc e) (all_spelled (expected_of words.Close) fields 2 none) h
+no_fault (Some words.Never) fields none h = one _ fields (λ handle e. cc e) (all_spelled (expected_of words.Never) fields 2 none) h
 no_fault (Some words.Ignore) fields none h = one _ fields (λ handle e. cc e) (all_spelled (expected_of words.Ignore) fields 2 none) h
 no_fault (Some (words.Ask want)) fields none h = ask fields (all_spelled (expected_of (words.Ask want)) fields 2 none) h
   where

@@ -95,6 +95,7 @@ line_item (Some words.Steps) [] = items.Steps
 line_item (Some words.Open) (handle ∷ path ∷ options) = open_of handle path options
 line_item (Some words.Clone) (handle ∷ from ∷ []) = clone_of (handle_of handle) (handle_of from)
 line_item (Some words.Close) fields = for_handle (λ h. step_item (steps.Close h)) fields
+line_item (Some words.Never) fields = for_handle (λ h. step_item (steps.Never h)) fields
 line_item (Some words.Ignore) fields = for_handle (λ h. step_item (steps.Ignore h)) fields
 line_item (Some (words.Ask want)) (handle ∷ id ∷ []) = start_of (call_for want) (handle_of handle) (id_of id)
 line_item (Some words.Write) (handle ∷ kind ∷ digits ∷ []) =

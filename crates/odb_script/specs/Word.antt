@@ -15,7 +15,7 @@ is_one_of texts text = list_any (same_name text) texts
 -- words that aren't built yet, with which a line may begin
 abbrev pub unbuilt_words : List (List ℕ)
 unbuilt_words =
-    codes "ids" ∷ codes "upgrade" ∷ codes "never" ∷ codes "prefix" ∷ codes "locate" ∷ codes "entry" ∷ []
+    codes "ids" ∷ codes "upgrade" ∷ codes "prefix" ∷ codes "locate" ∷ codes "entry" ∷ []
 
 -- the word of a step, with which a line may begin
 abbrev pub step_word_of : List ℕ → Option Word
@@ -23,6 +23,7 @@ step_word_of text =
     if same_name text (codes "open") then Some words.Open
     else if same_name text (codes "clone") then Some words.Clone
     else if same_name text (codes "close") then Some words.Close
+    else if same_name text (codes "never") then Some words.Never
     else if same_name text (codes "ignore") then Some words.Ignore
     else if same_name text (codes "find") then Some (words.Ask wants.Object)
     else if same_name text (codes "header") then Some (words.Ask wants.Header)

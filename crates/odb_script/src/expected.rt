@@ -35,7 +35,7 @@ pub fn expected_of(word: Word) -> &'static [Expected]
         Word::Link => expected_of_change(ChangeWord::Link),
         Word::Open => &[Expected::Handle, Expected::Path],
         Word::Clone => &[Expected::Handle, Expected::Handle],
-        Word::Close | Word::Ignore | Word::Turn | Word::Finish => &[Expected::Handle],
+        Word::Close | Word::Never | Word::Ignore | Word::Turn | Word::Finish => &[Expected::Handle],
         Word::Ask(_) => &[Expected::Handle, Expected::Id],
         Word::Write => &[Expected::Handle, Expected::Kind, Expected::Data],
         Word::Stream => &[

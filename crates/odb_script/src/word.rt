@@ -15,6 +15,7 @@ pub enum Word {
     Open,
     Clone,
     Close,
+    Never,
     Ignore,
     /// A call that asks for so much of the object with an id.
     Ask(Want),
@@ -62,6 +63,7 @@ fn step_word_of(text: &str) -> Option<Word>
         "open" => Some(Word::Open),
         "clone" => Some(Word::Clone),
         "close" => Some(Word::Close),
+        "never" => Some(Word::Never),
         "ignore" => Some(Word::Ignore),
         "find" => Some(Word::Ask(Want::Object)),
         "header" => Some(Word::Ask(Want::Header)),
@@ -96,10 +98,7 @@ pub fn change_word_of(text: &str) -> Option<ChangeWord>
 fn is_unbuilt_word(text: &str) -> bool
     ensures unbuilt { result ≡ is_one_of unbuilt_words text.now }
 {
-    matches!(
-        text,
-        "ids" | "upgrade" | "never" | "prefix" | "locate" | "entry"
-    )
+    matches!(text, "ids" | "upgrade" | "prefix" | "locate" | "entry")
 }
 
 /// The word for what isn't built yet, if a test found one.

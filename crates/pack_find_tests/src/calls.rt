@@ -5,7 +5,8 @@ use crate::openings::first_view;
 use crate::shown::{put_ask, put_event, put_reply};
 use gix_hash::Kind;
 use gix_odb::{
-    Answer, Ask, Call, CallState, HandleState, PathList, Replacements, Slots, StoreParts,
+    Answer, Ask, Call, CallState, HandleState, PathList, RefreshMode, Replacements, Slots,
+    StoreParts,
 };
 use gix_odb_core::Core;
 use odb_base::{NoMemory, PathText};
@@ -94,6 +95,16 @@ fn call_of(alloc: Global, words: &str) -> Result<Call, NoMemory> {
     query_of(alloc, verb, word)
 }
 
+fn put_finished(
+    alloc: Global,
+    disk: &mut MemDisk,
+    core: &mut Core,
+    mut state: CallState,
+    text: &mut Text,
+) -> Result<(), NoMemory> {
+    finish(alloc, disk, core, &mut state, text)
+}
+
 fn put_on(
     alloc: Global,
     disk: &mut MemDisk,
@@ -102,13 +113,13 @@ fn put_on(
     call: Call,
     text: &mut Text,
 ) -> Result<(), NoMemory> {
-    if !call.is_of_hash(handle.parts().object_hash) {
-        text.next("another hash");
-        drop(call);
-        return Ok(());
+    if call.is_of_hash(handle.parts().object_hash) {
+        let state = CallState::start(alloc, handle, call)?;
+        return put_finished(alloc, disk, core, state, text);
     }
-    let mut state = CallState::start(alloc, handle, call)?;
-    finish(alloc, disk, core, &mut state, text)
+    drop(call);
+    text.next("another hash");
+    Ok(())
 }
 
 fn store_parts(alloc: Global) -> Result<StoreParts, Fail> {
@@ -131,6 +142,7 @@ fn new_handle(alloc: Global) -> Result<HandleState, Fail> {
         info: Arc::new(alloc, parts)?,
         ignore_replacements: false,
         max_changes: 16,
+        refresh: RefreshMode::default(),
         view,
     })
 }

@@ -32,7 +32,9 @@ fn paths_of(alloc: Global, words: &str) -> Result<Vec<PathText>, Fail> {
 /// How folders are listed.
 #[derive(Drop)]
 struct Plan<'a> {
-    store: ListedStore<'a>,
+    /// The folders besides the objects directory.
+    others: &'a [PathText],
+    multi: Option<MultiUse>,
     /// A file becomes a link to this path before it is read, unless there is none.
     swapped: &'a str,
 }
@@ -79,7 +81,12 @@ fn step(
     text: &mut Text,
 ) -> Result<ListStep, Fail> {
     let answer = answered(alloc, disk, plan, &lister, text)?;
-    Ok(lister.feed(alloc, &plan.store, answer)?)
+    let store = ListedStore {
+        folders: plan.others,
+        multi: plan.multi,
+        loaded: None,
+    };
+    Ok(lister.feed(alloc, &store, answer)?)
 }
 
 fn put_too_many(text: &mut Text, actual: u32, path: &PathText) {
@@ -135,13 +142,12 @@ fn listed(
         return Err(Fail::new("no folder"));
     };
     let lister = Lister::start(alloc, objects, base)?;
-    let store = ListedStore {
-        folders: others,
+    let plan = Plan {
+        others,
         multi: folders.multi,
-        loaded: None,
+        swapped: folders.swapped,
     };
-    let swapped = folders.swapped;
-    listing_of(alloc, disk, &Plan { store, swapped }, lister, text)
+    listing_of(alloc, disk, &plan, lister, text)
 }
 
 fn put_listed(

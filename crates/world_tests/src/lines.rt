@@ -75,3 +75,31 @@ fn plays_lines(rt: HostRuntime) -> Result<(), Fail> {
     check_outcomes(rt.alloc(), &play)?;
     check_places(rt.alloc(), &play)
 }
+
+// After `never` a find that misses takes two turns: the loose path, and a look at the core. No folder is listed.
+const FROZEN: &str = "\
+    do mkdir /o\n\
+    open 0 /o slots=32\n\
+    finish 0\n\
+    find 0 0000000000000000000000000000000000000001\n\
+    never 0\n\
+    finish 0\n\
+    never 0\n\
+    clone 1 0\n\
+    find 0 0000000000000000000000000000000000000001\n\
+    finish 0\n\
+    test 1 0000000000000000000000000000000000000001\n\
+    finish 1";
+
+const FROZEN_OUTCOMES: &str = "\
+    applied; applied; pending; 32 slots; applied; misuse Busy; pending; pending; pending; pending; not found; \
+    applied; applied; applied; pending; not found; applied; pending; false; ";
+
+// A frozen handle that lists folders, and a clone of it that does.
+#[test]
+fn plays_lines_of_frozen_handles(rt: HostRuntime) -> Result<(), Fail> {
+    let lines = lines_of(rt.alloc(), FROZEN)?;
+    let play = played(rt.alloc(), &lines)?;
+    let found = outcomes_shown(rt.alloc(), &play.run.outcomes)?;
+    compare("lines", found.as_str(), FROZEN_OUTCOMES)
+}

@@ -273,8 +273,8 @@ fn records_what_is_done_with_files_of_packs(rt: HostRuntime) -> Result<(), Fail>
     Ok(())
 }
 
-// A multi-pack index that is read at the stat of an index, or loaded by an entry of its own; a pack that is stored under another place, or under
-// the one that the multi-pack index gave it before.
+// A multi-pack index that is read a second time, or loaded by an entry of its own; a pack that is stored under another place, or
+// under the one that it had before the multi-pack index was rewritten.
 #[test]
 fn records_packs_of_multi_pack_indices(rt: HostRuntime) -> Result<(), Fail> {
     let run = check_recorded(rt.alloc(), MULTI, MULTI_JOURNAL)?;

@@ -6,7 +6,7 @@ use std::alloc::Global;
 use std::test::Fail;
 
 /// Each word of a line that is built, except `do`, which comes before those of changes.
-const WORDS: [Word; 17] = [
+const WORDS: [Word; 18] = [
     Word::Fail,
     Word::Mkdir,
     Word::Put,
@@ -15,6 +15,7 @@ const WORDS: [Word; 17] = [
     Word::Open,
     Word::Clone,
     Word::Close,
+    Word::Never,
     Word::Ignore,
     Word::Ask(Want::Object),
     Word::Ask(Want::Header),
@@ -47,6 +48,7 @@ fn spelled(word: Word) -> &'static str {
         Word::Open => "open H PATH ",
         Word::Clone => "clone NEW H",
         Word::Close => "close H",
+        Word::Never => "never H",
         Word::Ignore => "ignore H",
         Word::Ask(Want::Object) => "find H HEX",
         Word::Ask(Want::Header) => "header H HEX",
@@ -207,7 +209,7 @@ fn names_each_option(rt: HostRuntime) -> Result<(), Fail> {
 }
 
 /// Each word that is known and isn't built.
-const UNBUILT_WORDS: [&str; 6] = ["ids", "upgrade", "never", "prefix", "locate", "entry"];
+const UNBUILT_WORDS: [&str; 5] = ["ids", "upgrade", "prefix", "locate", "entry"];
 
 // A word that isn't built, and is left out.
 #[test]

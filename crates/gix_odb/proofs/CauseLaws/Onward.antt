@@ -24,13 +24,14 @@ use Rattle.gix_odb_calls.specs.declared.verdict.Verdict.{Verdict}
 use Rattle.gix_odb_calls.specs.declared.verdict.Verdict.TheVariants as verdicts
 use Rattle.gix_odb.specs.Caused.{IsUnsettled, TellsNumber}
 use Rattle.gix_odb.specs.LookExchanges.{Exchange, IsLast}
-use Rattle.gix_odb.specs.LookUpOrder.{Setting, after_list, after_loose, at_folder, by_check}
+use Rattle.gix_odb.specs.LookUpOrder.{Setting, after_core_list, after_list, after_loose, at_folder, by_check}
 use Rattle.gix_odb.specs.LookUpOrder.{by_checked, by_read, by_refresh, by_tried}
 use Rattle.gix_odb.specs.LookUpOrder.{by_verdict, counted, ended, goal_of, is_unsettled, listing_from, load_refused, not_found}
 use Rattle.gix_odb.specs.LookUpOrder.{try_view, unsettled}
 use Rattle.gix_odb.specs.RefreshOrder.{by_listed, by_look, by_view}
 use Rattle.gix_odb.specs.RefreshOrder as refreshes
 use Rattle.gix_odb.specs.declared.refresh.RefreshStep.TheVariants as steps
+use Rattle.gix_odb.specs.declared.refresh.Refresh.TheVariants as fronts
 use Rattle.gix_odb.specs.declared.look_up.LookHead.{LookHead}
 use Rattle.gix_odb.specs.declared.look_up.LookStage.{LookStage}
 use Rattle.gix_odb.specs.declared.look_up.LookStage.TheVariants as stages
@@ -40,6 +41,7 @@ use Rattle.gix_odb.specs.declared.look_up.Part.{Part}
 use Rattle.gix_odb.specs.declared.look_up.Part.TheVariants as parts
 use Rattle.gix_odb.specs.declared.look_up.Purpose.{Purpose}
 use Rattle.gix_odb.specs.declared.look_up.Purpose.TheVariants as purposes
+use Rattle.gix_odb.proofs.ModeLemmas.{by_mode-all}
 use Rattle.gix_odb.proofs.ListerLaws.Tells.{ListedTells}
 use Rattle.gix_odb.proofs.CauseLaws.Pasts.{Noted}
 use Rattle.gix_odb.proofs.CauseLaws.Known.{Counts, HasBegun, KnowsAt, ShowedPart, VerdictTells, bad_explained, found_explained}
@@ -58,23 +60,30 @@ module _ (Shown : Path → ℕ → List ℕ → Type 0) (setting : Setting) (has
     listing_from-known : (base : ℕ) (notes : Notes) → Noted exchanges notes → HasBegun head → Knows head (listing_from setting base notes)
     listing_from-known base notes noted begun = (noted, begun, tt)
 
-    after_list-known : (part : Part) (notes : Notes) → Noted exchanges notes → ShowedPart head part → Knows head (after_list setting head part notes)
-    after_list-known parts.Snapshot notes noted showed = (noted, tt)
-    after_list-known (parts.List list_no true) notes noted showed = (noted, showed)
-    after_list-known (parts.List list_no false) notes noted showed = listing_from-known list_no notes noted showed
-    after_list-known (parts.Published list_no) notes noted showed = (noted, showed)
-
-    after_loose-known : (part : Part) (notes : Notes) → Noted exchanges notes → ShowedPart head part → Knows head (after_loose setting part notes)
-    after_loose-known parts.Snapshot notes noted showed = noted
-    after_loose-known (parts.List list_no loose) notes noted showed = listing_from-known list_no notes noted showed
-    after_loose-known (parts.Published list_no) notes noted showed = noted
-
     ended-known : (notes : Notes) → Noted exchanges notes → Knows head (ended head.want notes)
     ended-known notes noted = by notes.failed refl
       where
         by : (b : Bool) → notes.failed ≡ b → Knows head (if b then stages.Done (load_refused load_errors.Io) else stages.Done (not_found head.want))
         by true is = inl (noted is)
         by false is = not_found_explained Shown setting hash id exchanges head.want
+
+    -- a list of the core was tried, and the loose folders
+    core_list-known : (list_no : ℕ) (notes : Notes) → Noted exchanges notes → HasBegun head → Knows head (after_core_list setting head list_no notes)
+    core_list-known list_no notes noted begun =
+        by_mode-all (Knows head) (ended head.want notes) (listing_from setting list_no notes) head.mode (ended-known notes noted)
+        (listing_from-known list_no notes noted begun)
+
+    after_list-known : (part : Part) (notes : Notes) → Noted exchanges notes → ShowedPart head part → Knows head (after_list setting head part notes)
+    after_list-known parts.Snapshot notes noted showed = (noted, tt)
+    after_list-known (parts.List list_no true) notes noted showed = (noted, showed)
+    after_list-known (parts.List list_no false) notes noted showed = core_list-known list_no notes noted showed
+    after_list-known (parts.Published list_no) notes noted showed = (noted, showed)
+
+    after_loose-known : (part : Part) (notes : Notes) → Noted exchanges notes → ShowedPart head part → Knows head (after_loose setting head part notes)
+    after_loose-known parts.Snapshot notes noted showed = noted
+    after_loose-known (parts.List list_no loose) notes noted showed = core_list-known list_no notes noted showed
+    after_loose-known (parts.Published list_no) notes noted showed =
+        by_mode-all (Knows head) (ended head.want notes) (stages.Checking list_no notes) head.mode (ended-known notes noted) noted
 
     -- ---- the indices of a list
 
@@ -156,7 +165,9 @@ module _ (Shown : Path → ℕ → List ℕ → Type 0) (setting : Setting) (has
 
     by_read-known : HasBegun head → (purpose : Purpose) (view : View) (notes : Notes) → Noted exchanges notes → Knows head (by_read setting head purpose view notes)
     by_read-known begun (purposes.First loose) view notes noted = try_view-known (parts.List view.list_no loose) begun view view.todo notes noted
-    by_read-known begun purposes.Again view notes noted = listing_from-known view.list_no notes noted begun
+    by_read-known begun purposes.Again view notes noted =
+        by_mode-all (Knows head) (stages.Refreshing fronts.Reading (purposes.First true) notes) (listing_from setting view.list_no notes) head.mode noted
+        (listing_from-known view.list_no notes noted begun)
 
     by_view-known : HasBegun head → (purpose : Purpose) (view : View) (notes : Notes) → Noted exchanges notes
         → KnowsLook (by_refresh setting head purpose notes (by_view setting.parts.objects view))

@@ -32,7 +32,7 @@ use Rattle.gix_object.specs.declared.want.Want.{Want}
 use Rattle.gix_odb_calls.specs.declared.verdict.Verdict.{Verdict}
 use Rattle.gix_odb_calls.specs.declared.verdict.Verdict.TheVariants as verdicts
 use Rattle.gix_odb.specs.Laps.{Follows, IsNumbered, number_by}
-use Rattle.gix_odb.specs.LookUpOrder.{Setting, after_list, after_loose, ask_at, at_folder, by_check, by_checked, by_read, by_refresh}
+use Rattle.gix_odb.specs.LookUpOrder.{Setting, after_core_list, after_list, after_loose, ask_at, at_folder, by_check, by_checked, by_read, by_refresh}
 use Rattle.gix_odb.specs.LookUpOrder.{by_tried, by_verdict, counted, ended, fed_at, goal_of, is_unsettled, listing_from, load_refused}
 use Rattle.gix_odb.specs.LookUpOrder.{new_head, not_found, started, trier_fed, try_view, unsettled, view_shown, with_own, without_absent, without_notes}
 use Rattle.gix_odb.specs.RefreshOrder.{by_listed, by_look, by_published, by_view}
@@ -50,6 +50,8 @@ use Rattle.gix_odb.specs.declared.look_up.Part.{Part}
 use Rattle.gix_odb.specs.declared.look_up.Part.TheVariants as parts
 use Rattle.gix_odb.specs.declared.look_up.Purpose.{Purpose}
 use Rattle.gix_odb.specs.declared.look_up.Purpose.TheVariants as purposes
+use Rattle.gix_odb.specs.declared.refresh_mode.RefreshMode.{RefreshMode}
+use Rattle.gix_odb.proofs.ModeLemmas.{by_mode-all}
 use Rattle.gix_odb.specs.Store.{listed_for}
 
 -- ---- the number of the list that a stage is about, where `now` is the last that was answered
@@ -111,10 +113,21 @@ module _ (setting : Setting) (now : ℕ) where
 
     -- ---- lists and loose folders
 
+    ended_owned : (notes : Notes) → Owned (ended head.want notes)
+    ended_owned notes = by notes.failed
+      where
+        by : (b : Bool) → Owned (if b then stages.Done (load_refused load_errors.Io) else stages.Done (not_found head.want))
+        by true = tt
+        by false = tt
+
+    core_list_owned : (number : ℕ) (notes : Notes) → IsBelow head.own number now → Owned (after_core_list setting head number notes)
+    core_list_owned number notes is =
+        by_mode-all Owned (ended head.want notes) (listing_from setting number notes) head.mode (ended_owned notes) is
+
     list_owned : (part : Part) (notes : Notes) → OwnedPart part → Owned (after_list setting head part notes)
     list_owned parts.Snapshot notes is = is
     list_owned (parts.List number true) notes is = is
-    list_owned (parts.List number false) notes is = is
+    list_owned (parts.List number false) notes is = core_list_owned number notes is
     list_owned (parts.Published number) notes is = is
 
     tried_owned : (part : Part) (result : Tried) → OwnedPart part → Owned (by_tried setting head part result)
@@ -128,10 +141,11 @@ module _ (setting : Setting) (now : ℕ) where
     view_owned part view todo notes is =
         tried_owned part (seek (goal_of setting head) (record { indices = view.snapshot.indices; todo = todo; notes = notes })) is
 
-    loose_owned : (part : Part) (notes : Notes) → OwnedPart part → Owned (after_loose setting part notes)
+    loose_owned : (part : Part) (notes : Notes) → OwnedPart part → Owned (after_loose setting head part notes)
     loose_owned parts.Snapshot notes is = is
-    loose_owned (parts.List number loose) notes is = is
-    loose_owned (parts.Published number) notes is = is
+    loose_owned (parts.List number loose) notes is = core_list_owned number notes is
+    loose_owned (parts.Published number) notes is =
+        by_mode-all Owned (ended head.want notes) (stages.Checking number notes) head.mode (ended_owned notes) is
 
     folder_owned : (round : LooseRound) (next : Option Path) → OwnedPart round.part → Owned (at_folder setting head round next)
     folder_owned round None is = loose_owned round.part round.notes is
@@ -152,13 +166,6 @@ module _ (setting : Setting) (now : ℕ) where
         by true = tt
         by false = is
 
-    ended_owned : (notes : Notes) → Owned (ended head.want notes)
-    ended_owned notes = by notes.failed
-      where
-        by : (b : Bool) → Owned (if b then stages.Done (load_refused load_errors.Io) else stages.Done (not_found head.want))
-        by true = tt
-        by false = tt
-
     check_owned : (number : ℕ) (view : View) (notes : Notes) → IsBelow head.own view.list_no now → Owned (by_check setting head number view notes)
     check_owned number view notes is = by (view.list_no == number)
       where
@@ -177,7 +184,9 @@ module _ (setting : Setting) (now : ℕ) where
 
     read_owned : (purpose : Purpose) (view : View) (notes : Notes) → IsBelow head.own view.list_no now → Owned (by_read setting head purpose view notes)
     read_owned (purposes.First loose) view notes is = view_owned (parts.List view.list_no loose) view view.todo notes is
-    read_owned purposes.Again view notes is = is
+    read_owned purposes.Again view notes is =
+        by_mode-all Owned (stages.Refreshing fronts.Reading (purposes.First true) notes) (listing_from setting view.list_no notes) head.mode
+        (omega (arith, is.0, is.1), omega arith) is
 
     shown_owned : (purpose : Purpose) (notes : Notes) (view : View) → IsBelow head.own view.list_no now
         → IsLookOwned now (by_refresh setting head purpose notes (by_view setting.parts.objects view))
@@ -286,11 +295,11 @@ own_has_room setting slots before head (stages.Checking number notes) listing vi
 own_has_room setting slots before head (stages.Done reply) listing view is asked numbered = absurd (cc asked)
 
 -- a look-up that is started published none
-pub started-owned : (setting : Setting) (view : View) (want : Want) (id : ObjectId) (number : ℕ) → IsLookOwned number (started setting view want id)
-started-owned setting view want id number = by view.read
+pub started-owned : (setting : Setting) (mode : RefreshMode) (view : View) (want : Want) (id : ObjectId) (number : ℕ) → IsLookOwned number (started setting mode view want id)
+started-owned setting mode view want id number = by view.read
   where
     by : (b : Bool)
         → IsOwned number 0
-        (if b then try_view setting (new_head want id) parts.Snapshot view [] without_notes else stages.Refreshing fronts.Reading (purposes.First true) without_notes)
-    by true = view_owned setting number (new_head want id) parts.Snapshot view [] without_notes (omega arith, omega arith)
+        (if b then try_view setting (new_head mode want id) parts.Snapshot view [] without_notes else stages.Refreshing fronts.Reading (purposes.First true) without_notes)
+    by true = view_owned setting number (new_head mode want id) parts.Snapshot view [] without_notes (omega arith, omega arith)
     by false = (omega arith, omega arith)

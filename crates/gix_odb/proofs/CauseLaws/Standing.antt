@@ -29,7 +29,7 @@ use Rattle.gix_odb_calls.specs.declared.verdict.FolderCall.{FolderCall}
 use Rattle.gix_odb_calls.specs.declared.verdict.Verdict.{Verdict}
 use Rattle.gix_odb_calls.specs.declared.verdict.Verdict.TheVariants as verdicts
 use Rattle.gix_odb.specs.LoadIndex.{of_refusal}
-use Rattle.gix_odb.specs.LookUpOrder.{Setting, after_list, after_loose, at_folder, by_check}
+use Rattle.gix_odb.specs.LookUpOrder.{Setting, after_core_list, after_list, after_loose, at_folder, by_check}
 use Rattle.gix_odb.specs.LookUpOrder.{by_checked, by_read, by_refresh, by_tried}
 use Rattle.gix_odb.specs.LookUpOrder.{by_verdict, counted, ended, fed, fed_at, find_error, goal_of}
 use Rattle.gix_odb.specs.LookUpOrder.{is_unsettled, listing_from, load_refused, loose_from, not_found}
@@ -51,6 +51,8 @@ use Rattle.gix_odb.specs.declared.look_up.Part.{Part}
 use Rattle.gix_odb.specs.declared.look_up.Part.TheVariants as parts
 use Rattle.gix_odb.specs.declared.look_up.Purpose.{Purpose}
 use Rattle.gix_odb.specs.declared.look_up.Purpose.TheVariants as purposes
+use Rattle.gix_odb.specs.declared.refresh_mode.RefreshMode.{RefreshMode}
+use Rattle.gix_odb.proofs.ModeLemmas.{by_mode-all}
 use Rattle.gix_odb.proofs.ListerLaws.Folders.{GoesToFolder, IsAtFolder, fed-goes, first_folder, later_folder}
 use Rattle.gix_odb.proofs.CauseLaws.Replies.{EndsWell, found_replies, not_found_replies, refused_replies, verdict_ends_well}
 use Rattle.gix_odb.specs.Reply.{IsReplyTo}
@@ -91,23 +93,29 @@ module _ (setting : Setting) (head : LookHead) where
   listing_from-stand : (base : ℕ) (notes : Notes) → Stand (listing_from setting base notes)
   listing_from-stand base notes = (setting.parts.objects, first_folder setting, refl)
 
-  after_list-stand : (part : Part) (notes : Notes) → Stand (after_list setting head part notes)
-  after_list-stand parts.Snapshot notes = loose_from-stand parts.Snapshot notes
-  after_list-stand (parts.List list_no true) notes = loose_from-stand (parts.List list_no true) notes
-  after_list-stand (parts.List list_no false) notes = listing_from-stand list_no notes
-  after_list-stand (parts.Published list_no) notes = loose_from-stand (parts.Published list_no) notes
-
-  after_loose-stand : (part : Part) (notes : Notes) → Stand (after_loose setting part notes)
-  after_loose-stand parts.Snapshot notes = tt
-  after_loose-stand (parts.List list_no loose) notes = listing_from-stand list_no notes
-  after_loose-stand (parts.Published list_no) notes = tt
-
   ended-stand : (notes : Notes) → Stand (ended head.want notes)
   ended-stand notes = by notes.failed
     where
       by : (b : Bool) → Stand (if b then stages.Done (load_refused load_errors.Io) else stages.Done (not_found head.want))
       by true = load_refused-stand load_errors.Io
       by false = not_found_replies head.want
+
+  -- a list of the core was tried, and the loose folders
+  core_list-stand : (list_no : ℕ) (notes : Notes) → Stand (after_core_list setting head list_no notes)
+  core_list-stand list_no notes =
+      by_mode-all Stand (ended head.want notes) (listing_from setting list_no notes) head.mode (ended-stand notes) (listing_from-stand list_no notes)
+
+  after_list-stand : (part : Part) (notes : Notes) → Stand (after_list setting head part notes)
+  after_list-stand parts.Snapshot notes = loose_from-stand parts.Snapshot notes
+  after_list-stand (parts.List list_no true) notes = loose_from-stand (parts.List list_no true) notes
+  after_list-stand (parts.List list_no false) notes = core_list-stand list_no notes
+  after_list-stand (parts.Published list_no) notes = loose_from-stand (parts.Published list_no) notes
+
+  after_loose-stand : (part : Part) (notes : Notes) → Stand (after_loose setting head part notes)
+  after_loose-stand parts.Snapshot notes = tt
+  after_loose-stand (parts.List list_no loose) notes = core_list-stand list_no notes
+  after_loose-stand (parts.Published list_no) notes =
+      by_mode-all Stand (ended head.want notes) (stages.Checking list_no notes) head.mode (ended-stand notes) tt
 
   -- ---- the indices of a list
 
@@ -174,7 +182,9 @@ module _ (setting : Setting) (head : LookHead) where
 
   by_read-stand : (purpose : Purpose) (view : View) (notes : Notes) → Stand (by_read setting head purpose view notes)
   by_read-stand (purposes.First loose) view notes = try_view-stand (parts.List view.list_no loose) view view.todo notes
-  by_read-stand purposes.Again view notes = listing_from-stand view.list_no notes
+  by_read-stand purposes.Again view notes =
+      by_mode-all Stand (stages.Refreshing fronts.Reading (purposes.First true) notes) (listing_from setting view.list_no notes) head.mode tt
+      (listing_from-stand view.list_no notes)
 
 -- a step of a refresh that lists folders is at one of the store
 abbrev StepStands : Setting → RefreshStep → Type 0
@@ -277,11 +287,11 @@ pub record StandsFor (setting : Setting) (want : Want) (id : ObjectId) (look : L
   pub id_is : look.head.id ≡ id
   pub stands : Stands setting look
 
-pub started-stands : (setting : Setting) (view : View) (want : Want) (id : ObjectId) → StandsFor setting want id (started setting view want id)
-started-stands setting view want id = record { want_is = refl; id_is = refl; stands = by view.read }
+pub started-stands : (setting : Setting) (mode : RefreshMode) (view : View) (want : Want) (id : ObjectId) → StandsFor setting want id (started setting mode view want id)
+started-stands setting mode view want id = record { want_is = refl; id_is = refl; stands = by view.read }
   where
     head : LookHead
-    head = new_head want id
+    head = new_head mode want id
 
     by : (b : Bool)
         → StandsAt setting want id (if b then try_view setting head parts.Snapshot view [] without_notes else stages.Refreshing fronts.Reading (purposes.First true) without_notes)

@@ -30,6 +30,7 @@ use Rattle.gix_odb.specs.declared.look_up.LookHead.{LookHead}
 use Rattle.gix_odb.specs.declared.look_up.LookStage.TheVariants as stages
 use Rattle.gix_odb.specs.declared.look_up.LookStage.{LookStage}
 use Rattle.gix_odb.specs.declared.look_up.LookUp.{LookUp}
+use Rattle.gix_odb.specs.declared.refresh_mode.RefreshMode.{RefreshMode}
 use Rattle.gix_odb.proofs.FoundLaws.Known.{KnowsLook, KnowsLookStage, KnowsRefresh, KnowsReply, KnowsStage}
 use Rattle.gix_odb.proofs.ListerLaws.Lists.{has_first, has_later}
 use Rattle.gix_odb.proofs.ListingLaws.HandedRows.{rows_handed}
@@ -92,15 +93,15 @@ module _ (Shown : Path → ℕ → List ℕ → Type 0) (setting : Setting) (has
         subst (λ (other : Reply). KnowsReply Shown setting hash id exchanges want other) same here
     done_known head stage reply here is = absurd (cc is)
 
-  module _ (same : kind_of id ≡ hash) (view : View) (shown : IsShownView Shown setting hash view) (exchanges : List Exchange)
-      (asked : AreAsked setting (started setting view want id) exchanges) (truth : AreTrue Shown setting hash exchanges) where
+  module _ (same : kind_of id ≡ hash) (mode : RefreshMode) (view : View) (shown : IsShownView Shown setting hash view) (exchanges : List Exchange)
+      (asked : AreAsked setting (started setting mode view want id) exchanges) (truth : AreTrue Shown setting hash exchanges) where
     abbrev pub look : LookUp
-    look = behind setting (started setting view want id) exchanges
+    look = behind setting (started setting mode view want id) exchanges
 
     pub look_known : KnowsLook Shown setting hash id exchanges want look
     look_known =
-        rest_known exchanges same truth exchanges (started setting view want id) (λ exchange is. is) asked
-        (begun_known Shown setting hash id exchanges want view shown)
+        rest_known exchanges same truth exchanges (started setting mode view want id) (λ exchange is. is) asked
+        (begun_known Shown setting hash id exchanges want mode view shown)
 
     -- an error that packs give has its cause
     pub pack_refusal_caused : (error : Error) → result_of look ≡ Ok (replies.Refused (call_errors.Find error)) → IsOfPack error

@@ -38,7 +38,7 @@ use Rattle.gix_odb_calls.specs.declared.verdict.Verdict.{Verdict}
 use Rattle.gix_odb_calls.specs.declared.verdict.Verdict.TheVariants as verdicts
 use Rattle.gix_odb.specs.LookExchanges.{Exchange, HasVerdict, WasTold}
 use Rattle.gix_odb.specs.LoadIndex.{of_refusal}
-use Rattle.gix_odb.specs.LookUpOrder.{Setting, after_list, after_loose, ask_at, at_folder, by_check, by_checked, by_read, by_refresh}
+use Rattle.gix_odb.specs.LookUpOrder.{Setting, after_core_list, after_list, after_loose, ask_at, at_folder, by_check, by_checked, by_read, by_refresh}
 use Rattle.gix_odb.specs.LookUpOrder.{by_tried, by_verdict, counted, ended, fed_at, goal_of, is_unsettled, listing_from}
 use Rattle.gix_odb.specs.LookUpOrder.{load_refused, loose_from, new_head, not_found, started, trier_fed, try_view, unsettled}
 use Rattle.gix_odb.specs.LookUpOrder.{own_by, view_shown, without_absent, without_notes}
@@ -59,6 +59,8 @@ use Rattle.gix_odb.specs.declared.look_up.Part.{Part}
 use Rattle.gix_odb.specs.declared.look_up.Part.TheVariants as parts
 use Rattle.gix_odb.specs.declared.look_up.Purpose.{Purpose}
 use Rattle.gix_odb.specs.declared.look_up.Purpose.TheVariants as purposes
+use Rattle.gix_odb.specs.declared.refresh_mode.RefreshMode.{RefreshMode}
+use Rattle.gix_odb.proofs.ModeLemmas.{by_mode-all}
 use Rattle.gix_odb.proofs.FoundLaws.Known.{IsIndexTodo, KnowsHead, KnowsLook, KnowsLookStage, KnowsLoose, KnowsRefresh, KnowsRows, KnowsTried, KnowsTrier, goal_for}
 use Rattle.gix_odb.proofs.ListerLaws.Known.{KnowsListStep}
 use Rattle.gix_odb.proofs.ListerLaws.Known.{fed_known, started_known}
@@ -101,16 +103,27 @@ module _ (Shown : Path → ℕ → List ℕ → Type 0) (setting : Setting) (has
   listing_known : (base : ℕ) → KnowsRefresh Shown setting (refreshes.listing_from setting.parts.objects base)
   listing_known base = (started_known setting base, starts_seeing (ShowsRead Shown) (listed_for setting.parts) setting.parts.objects base)
 
+  ended_known : (asked : Want) (notes : Notes) → Stands (ended asked notes)
+  ended_known asked notes =
+      chosen_known notes.failed (stages.Done (load_refused load_errors.Io)) (stages.Done (not_found asked))
+      (load_reply Shown setting hash id exchanges want load_errors.Io) (missed_reply Shown setting hash id exchanges want asked)
+
+  -- a list of the core was tried, and the loose folders
+  core_list_known : (head : LookHead) (list_no : ℕ) (notes : Notes) → Stands (after_core_list setting head list_no notes)
+  core_list_known head list_no notes =
+      by_mode-all Stands (ended head.want notes) (listing_from setting list_no notes) head.mode (ended_known head.want notes) (listing_known list_no)
+
   after_list_known : (head : LookHead) (part : Part) (notes : Notes) → Heads head → Stands (after_list setting head part notes)
   after_list_known head parts.Snapshot notes known = loose_known head parts.Snapshot notes known
   after_list_known head (parts.List list_no true) notes known = loose_known head (parts.List list_no true) notes known
-  after_list_known head (parts.List list_no false) notes known = listing_known list_no
+  after_list_known head (parts.List list_no false) notes known = core_list_known head list_no notes
   after_list_known head (parts.Published list_no) notes known = loose_known head (parts.Published list_no) notes known
 
-  after_loose_known : (part : Part) (notes : Notes) → Stands (after_loose setting part notes)
-  after_loose_known parts.Snapshot notes = tt
-  after_loose_known (parts.List list_no loose) notes = listing_known list_no
-  after_loose_known (parts.Published list_no) notes = tt
+  after_loose_known : (head : LookHead) (part : Part) (notes : Notes) → Stands (after_loose setting head part notes)
+  after_loose_known head parts.Snapshot notes = tt
+  after_loose_known head (parts.List list_no loose) notes = core_list_known head list_no notes
+  after_loose_known head (parts.Published list_no) notes =
+      by_mode-all Stands (ended head.want notes) (stages.Checking list_no notes) head.mode (ended_known head.want notes) tt
 
   -- ---- a list is tried
 
@@ -133,22 +146,22 @@ module _ (Shown : Path → ℕ → List ℕ → Type 0) (setting : Setting) (has
       (subst (λ (goal : Goal). KnowsTried Shown setting hash id exchanges want (seek goal ahead)) (goal_is head known)
       (seek_known Shown setting hash id exchanges want ahead (record { indices = shown.indices; todo = paths })))
 
-  pub begun_known : (view : View) → IsView view → Knows (started setting view want id)
-  begun_known view shown =
-      let head : Heads (new_head want id) = record { want_is = refl; id_is = refl } in
+  pub begun_known : (mode : RefreshMode) (view : View) → IsView view → Knows (started setting mode view want id)
+  begun_known mode view shown =
+      let head : Heads (new_head mode want id) = record { want_is = refl; id_is = refl } in
       record {
         head = head;
         stage =
-            chosen_known view.read (try_view setting (new_head want id) parts.Snapshot view [] without_notes)
+            chosen_known view.read (try_view setting (new_head mode want id) parts.Snapshot view [] without_notes)
             (stages.Refreshing fronts.Reading (purposes.First true) without_notes)
-            (try_known (new_head want id) parts.Snapshot view [] without_notes head shown (All-nil (IsIndexTodo setting))) tt;
+            (try_known (new_head mode want id) parts.Snapshot view [] without_notes head shown (All-nil (IsIndexTodo setting))) tt;
       }
 
   -- ---- a folder has replied
 
   next_known : (head : LookHead) (round : LooseRound) (next : Option Path) → slice_get setting.parts.folders round.next ≡ next → Heads head
       → Stands (at_folder setting head round next)
-  next_known head round None is known = after_loose_known round.part round.notes
+  next_known head round None is known = after_loose_known head round.part round.notes
   next_known head round (Some folder) is known =
       folder_known head folder known (has_later setting.parts.objects setting.parts.folders folder (at_place setting.parts.folders round.next folder is))
 
@@ -186,11 +199,6 @@ module _ (Shown : Path → ℕ → List ℕ → Type 0) (setting : Setting) (has
   counted_known : (head : LookHead) (now : ℕ) (next : LookStage) → Stands next → Stands (counted setting head now next)
   counted_known head now next here =
       chosen_known (is_unsettled setting head now) (unsettled head now) next (load_reply Shown setting hash id exchanges want _) here
-
-  ended_known : (asked : Want) (notes : Notes) → Stands (ended asked notes)
-  ended_known asked notes =
-      chosen_known notes.failed (stages.Done (load_refused load_errors.Io)) (stages.Done (not_found asked))
-      (load_reply Shown setting hash id exchanges want load_errors.Io) (missed_reply Shown setting hash id exchanges want asked)
 
   check_known : (head : LookHead) (list_no : ℕ) (view : View) (notes : Notes) → Stands (by_check setting head list_no view notes)
   check_known head list_no view notes =
@@ -250,7 +258,9 @@ module _ (Shown : Path → ℕ → List ℕ → Type 0) (setting : Setting) (has
   read_known : (head : LookHead) (purpose : Purpose) (view : View) (notes : Notes) → Heads head → IsView view → Stands (by_read setting head purpose view notes)
   read_known head (purposes.First loose) view notes known shown =
       try_known head (parts.List view.list_no loose) view view.todo notes known shown shown.todo
-  read_known head purposes.Again view notes known shown = listing_known view.list_no
+  read_known head purposes.Again view notes known shown =
+      by_mode-all Stands (stages.Refreshing fronts.Reading (purposes.First true) notes) (listing_from setting view.list_no notes) head.mode tt
+      (listing_known view.list_no)
 
   own_known : (head : LookHead) (own : Bool) → Heads head → Heads (own_by head own)
   own_known head true known = record { want_is = known.want_is; id_is = known.id_is }

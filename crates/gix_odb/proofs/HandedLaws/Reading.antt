@@ -33,6 +33,7 @@ use Rattle.gix_odb.specs.declared.look_up.LookHead.{LookHead}
 use Rattle.gix_odb.specs.declared.look_up.LookStage.{LookStage}
 use Rattle.gix_odb.specs.declared.look_up.LookStage.TheVariants as stages
 use Rattle.gix_odb.specs.declared.look_up.LookUp.{LookUp}
+use Rattle.gix_odb.specs.declared.refresh_mode.RefreshMode.{RefreshMode}
 use Rattle.gix_odb.proofs.HandedLaws.Stages.{Goes, Stands, Steps, same_ask, stage_stands, start_stands}
 use Rattle.gix_odb.proofs.ListerLaws.Streams.{HasNone, OpensNone, StreamBehind, StreamOf, Told, core_leaves_streams, listing_streams}
 use Rattle.gix_odb.proofs.ListerLaws.Streams.{none_stays_open, told_by}
@@ -144,11 +145,11 @@ module _ (setting : Setting) where
       (seen look.head exchange.answer) look.stage exchange.answer (goes_on now look.stage own exchange.ask exchange.answer asked.0))
       exchanges asked.1
 
-  pub streams_are_own : (view : View) (want : Want) (id : ObjectId) (exchanges : List Exchange) → AreAsked setting (started setting view want id) exchanges
-      → IsOwn (told_from none_told exchanges) (behind setting (started setting view want id) exchanges).stage
-  streams_are_own view want id exchanges asked =
-      own_behind none_told (started setting view want id)
-      (start_stands setting AnyCall (StreamOf none_told) AnyRows (HasNone none_told) (λ want id folder. tt) (λ base none. none) view want id refl)
+  pub streams_are_own : (mode : RefreshMode) (view : View) (want : Want) (id : ObjectId) (exchanges : List Exchange) → AreAsked setting (started setting mode view want id) exchanges
+      → IsOwn (told_from none_told exchanges) (behind setting (started setting mode view want id) exchanges).stage
+  streams_are_own mode view want id exchanges asked =
+      own_behind none_told (started setting mode view want id)
+      (start_stands setting AnyCall (StreamOf none_told) AnyRows (HasNone none_told) (λ want id folder. tt) (λ base none. none) mode view want id refl)
       exchanges asked
 
   -- ---- which stream is asked

@@ -38,7 +38,7 @@ use Rattle.gix_odb.specs.declared.refresh.RefreshStep.{RefreshStep}
 use Rattle.gix_odb.specs.declared.refresh.RefreshStep.TheVariants as steps
 use Rattle.gix_odb.specs.RefreshOrder.{by_listed, by_look, by_published}
 use Rattle.gix_odb.specs.RefreshOrder as refreshes
-use Rattle.gix_odb.specs.LookUpOrder.{Setting, after_list, after_loose, ask_at, at_folder, by_checked, by_read, by_refresh, by_tried}
+use Rattle.gix_odb.specs.LookUpOrder.{Setting, after_core_list, after_list, after_loose, ask_at, at_folder, by_checked, by_read, by_refresh, by_tried}
 use Rattle.gix_odb.specs.LookUpOrder.{by_verdict, counted, ended, fed_at, goal_of, is_unsettled}
 use Rattle.gix_odb.specs.LookUpOrder.{listing_from, load_refused, own_by}
 use Rattle.gix_odb.specs.LookUpOrder.{new_head, not_found, started, trier_fed, try_view, unsettled, view_shown, without_absent, without_notes}
@@ -50,6 +50,8 @@ use Rattle.gix_odb.specs.declared.look_up.Part.{Part}
 use Rattle.gix_odb.specs.declared.look_up.Part.TheVariants as parts
 use Rattle.gix_odb.specs.declared.look_up.Purpose.{Purpose}
 use Rattle.gix_odb.specs.declared.look_up.Purpose.TheVariants as purposes
+use Rattle.gix_odb.specs.declared.refresh_mode.RefreshMode.{RefreshMode}
+use Rattle.gix_odb.proofs.ModeLemmas.{by_mode-all}
 use Rattle.gix_odb.specs.Store.{listed_for}
 
 -- ---- what a stage asks
@@ -121,16 +123,26 @@ module _ (setting : Setting) (OfCall : FolderCall → Type 0) (OfLister : Lister
     chosen true one other first further = first
     chosen false one other first further = further
 
+    ended_stands : (want : Want) (notes : Notes) → Else → Stands (ended want notes)
+    ended_stands want notes here =
+        chosen notes.failed (stages.Done (load_refused load_errors.Io)) (stages.Done (not_found want)) here here
+
+    -- a list of the core was tried, and the loose folders
+    core_list_stands : (head : LookHead) (list_no : ℕ) (notes : Notes) → Else → Stands (after_core_list setting head list_no notes)
+    core_list_stands head list_no notes here =
+        by_mode-all Stands (ended head.want notes) (listing_from setting list_no notes) head.mode (ended_stands head.want notes here) (begins list_no here)
+
     list_stands : (head : LookHead) (part : Part) (notes : Notes) → Else → Stands (after_list setting head part notes)
     list_stands head parts.Snapshot notes here = (here, calls head.want head.id setting.parts.objects)
     list_stands head (parts.List list_no true) notes here = (here, calls head.want head.id setting.parts.objects)
-    list_stands head (parts.List list_no false) notes here = begins list_no here
+    list_stands head (parts.List list_no false) notes here = core_list_stands head list_no notes here
     list_stands head (parts.Published list_no) notes here = (here, calls head.want head.id setting.parts.objects)
 
-    loose_stands : (part : Part) (notes : Notes) → Else → Stands (after_loose setting part notes)
-    loose_stands parts.Snapshot notes here = here
-    loose_stands (parts.List list_no loose) notes here = begins list_no here
-    loose_stands (parts.Published list_no) notes here = here
+    loose_stands : (head : LookHead) (part : Part) (notes : Notes) → Else → Stands (after_loose setting head part notes)
+    loose_stands head parts.Snapshot notes here = here
+    loose_stands head (parts.List list_no loose) notes here = core_list_stands head list_no notes here
+    loose_stands head (parts.Published list_no) notes here =
+        by_mode-all Stands (ended head.want notes) (stages.Checking list_no notes) head.mode (ended_stands head.want notes here) here
 
     -- ---- a list is tried
 
@@ -147,16 +159,16 @@ module _ (setting : Setting) (OfCall : FolderCall → Type 0) (OfLister : Lister
         tried_stands head part (seek (goal_of setting head) (record { indices = view.snapshot.indices; todo = todo; notes = notes })) here
 
     -- a new look-up has what is to hold
-    pub start_stands : (view : View) (want : Want) (id : ObjectId) → Else → Stands (started setting view want id).stage
-    start_stands view want id here =
-        chosen view.read (try_view setting (new_head want id) parts.Snapshot view [] without_notes)
+    pub start_stands : (mode : RefreshMode) (view : View) (want : Want) (id : ObjectId) → Else → Stands (started setting mode view want id).stage
+    start_stands mode view want id here =
+        chosen view.read (try_view setting (new_head mode want id) parts.Snapshot view [] without_notes)
         (stages.Refreshing fronts.Reading (purposes.First true) without_notes)
-        (try_stands (new_head want id) parts.Snapshot view [] without_notes here) here
+        (try_stands (new_head mode want id) parts.Snapshot view [] without_notes here) here
 
     -- ---- a folder has replied
 
     folder_stands : (head : LookHead) (round : LooseRound) (next : Option Path) → Else → Stands (at_folder setting head round next)
-    folder_stands head round None here = loose_stands round.part round.notes here
+    folder_stands head round None here = loose_stands head round.part round.notes here
     folder_stands head round (Some folder) here = (here, calls head.want head.id folder)
 
     verdict_stands : (head : LookHead) (round : LooseRound) (verdict : Verdict) → Else → Stands (by_verdict setting head round verdict)
@@ -169,10 +181,6 @@ module _ (setting : Setting) (OfCall : FolderCall → Type 0) (OfLister : Lister
 
     counted_stands : (head : LookHead) (now : ℕ) (next : LookStage) → Else → Stands next → Stands (counted setting head now next)
     counted_stands head now next here own = chosen (is_unsettled setting head now) (unsettled head now) next here own
-
-    ended_stands : (want : Want) (notes : Notes) → Else → Stands (ended want notes)
-    ended_stands want notes here =
-        chosen notes.failed (stages.Done (load_refused load_errors.Io)) (stages.Done (not_found want)) here here
 
     check_stands : (head : LookHead) (list_no : ℕ) (notes : Notes) (view : Option View) → Else → Stands (by_checked setting head list_no notes view)
     check_stands head list_no notes None here = here
@@ -205,7 +213,9 @@ module _ (setting : Setting) (OfCall : FolderCall → Type 0) (OfLister : Lister
 
     read_stands : (head : LookHead) (purpose : Purpose) (view : View) (notes : Notes) → Else → Stands (by_read setting head purpose view notes)
     read_stands head (purposes.First loose) view notes here = try_stands head (parts.List view.list_no loose) view view.todo notes here
-    read_stands head purposes.Again view notes here = begins view.list_no here
+    read_stands head purposes.Again view notes here =
+        by_mode-all Stands (stages.Refreshing fronts.Reading (purposes.First true) notes) (listing_from setting view.list_no notes) head.mode here
+        (begins view.list_no here)
 
     refresh_stands : (head : LookHead) (purpose : Purpose) (notes : Notes) (step : RefreshStep) → Refreshes step
         → Stands (by_refresh setting head purpose notes step).stage

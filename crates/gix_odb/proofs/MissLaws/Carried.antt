@@ -18,6 +18,7 @@ use Rattle.gix_odb_search.specs.PackFolder.{is_index_name, multi_index_name, mul
 use Rattle.gix_odb_search.specs.declared.multi_pack.MultiUse.{MultiUse}
 use Rattle.gix_odb_search.proofs.UnnamedLaws.{multi_stays, stays_or_named, unnamed_are}
 use Rattle.gix_odb.specs.Fair.{Carrier, IsCarried, IsCarriedBy, IsIndexBy, IsItsIndex, IsMultiSound, ItsIndex, PackedPlace, TheMulti, index_at, multi_at}
+pub use Rattle.gix_odb.specs.StillListed.{HasRow, IsCarrierRow, IsMultiRow}
 use Rattle.gix_odb.proofs.ListerLaws.Differ.{push_same}
 use Rattle.gix_odb.proofs.MissLaws.Lists.{first_in, later_in}
 use Rattle.gix_odb.proofs.MissLaws.Rows.{longest_first_has}
@@ -68,28 +69,13 @@ module _ (multi : Option MultiUse) (hash : Kind) (id : ObjectId) (place : Packed
   abbrev pub AllAgree : List ListingRow → Type 0
   AllAgree rows = All Agrees rows
 
-  -- the row of a multi-pack index that is sound
-  pub record IsMultiRow (row : ListingRow) : Type 0 where
-    pub bytes : List ℕ
-    pub content : row.multi ≡ Some bytes
-    pub path : row.path ≡ multi_at place
-    pub sound : IsMultiSound multi hash id place bytes
-
-  -- the row of the pack's own index, or of such a multi-pack index
-  abbrev pub IsCarrierRow : ListingRow → Type 0
-  IsCarrierRow row = ((row.multi ≡ None) × IsItsIndex place row.path) ⊎ IsMultiRow row
-
-  -- one of the rows is
-  abbrev pub HasRow : List ListingRow → Type 0
-  HasRow rows = (row : ListingRow) × Contains rows row × IsCarrierRow row
-
   -- a multi-pack index that names the pack's own index is sound
   named_in_place : (carrier : Carrier) → IsCarriedBy multi place.name carrier → (path : Path) → IsIndexBy carrier (index_at place) path
-      → (row : ListingRow) → Agrees row → is_among (paths_named row.path row.multi) path ≡ true → IsMultiRow row
+      → (row : ListingRow) → Agrees row → is_among (paths_named row.path row.multi) path ≡ true → IsMultiRow multi hash id place row
   named_in_place TheMulti carried path at row agree names = absurd at
   named_in_place ItsIndex named path at row agree names = by row.multi refl names
     where
-      by : (content : Option (List ℕ)) → row.multi ≡ content → is_among (paths_named row.path content) path ≡ true → IsMultiRow row
+      by : (content : Option (List ℕ)) → row.multi ≡ content → is_among (paths_named row.path content) path ≡ true → IsMultiRow multi hash id place row
       by None is other = absurd (cc other)
       by (Some bytes) is other =
           let own = agree bytes is in
@@ -107,7 +93,7 @@ module _ (multi : Option MultiUse) (hash : Kind) (id : ObjectId) (place : Packed
 
   module _ (carried : IsCarried multi place) where
     -- where indices are dropped, a carrier is left
-    left_has : (rows : List ListingRow) → AllAgree rows → HasRow rows → HasRow (unnamed rows)
+    left_has : (rows : List ListingRow) → AllAgree rows → HasRow multi hash id place rows → HasRow multi hash id place (unnamed rows)
     left_has rows agree (row, among, inr own) =
         (row, multi_stays rows row among (ap is_some own.content), inr own)
     left_has rows agree (row, among, inl own) =
@@ -121,6 +107,6 @@ module _ (multi : Option MultiUse) (hash : Kind) (id : ObjectId) (place : Packed
           )
         ]
 
-    pub listed_has : (rows : List ListingRow) → AllAgree rows → HasRow rows → HasRow (longest_first (unnamed rows))
+    pub listed_has : (rows : List ListingRow) → AllAgree rows → HasRow multi hash id place rows → HasRow multi hash id place (longest_first (unnamed rows))
     listed_has rows agree has =
         let left = left_has rows agree has in (left.0, longest_first_has (unnamed rows) left.0 left.1, left.2)

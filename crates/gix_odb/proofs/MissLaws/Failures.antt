@@ -35,7 +35,7 @@ use Rattle.gix_object.specs.declared.want.Want.TheVariants.{Object, Header, Pres
 use Rattle.gix_odb_calls.specs.declared.verdict.Verdict.{Verdict}
 use Rattle.gix_odb_calls.specs.declared.verdict.Verdict.TheVariants as verdicts
 use Rattle.gix_odb.specs.LoadIndex.{of_refusal}
-use Rattle.gix_odb.specs.LookUpOrder.{Setting, after_list, after_loose, ask_at, at_folder, by_checked, by_read, by_refresh}
+use Rattle.gix_odb.specs.LookUpOrder.{Setting, after_core_list, after_list, after_loose, ask_at, at_folder, by_checked, by_read, by_refresh}
 use Rattle.gix_odb.specs.LookUpOrder.{by_tried, by_verdict}
 use Rattle.gix_odb.specs.LookUpOrder.{counted, ended, fed, fed_at, find_error, goal_of, is_unsettled, listing_from, load_refused}
 use Rattle.gix_odb.specs.LookUpOrder.{not_found}
@@ -57,6 +57,7 @@ use Rattle.gix_odb.specs.declared.look_up.Part.TheVariants as parts
 use Rattle.gix_odb.specs.declared.look_up.Purpose.{Purpose}
 use Rattle.gix_odb.specs.declared.look_up.Purpose.TheVariants as purposes
 use Rattle.gix_odb_search.proofs.NotedLaws.{IsDisk, IsNoted, IsNotedBy, NotedIn, failed, failed_trier, noted_answer, noted_seek}
+use Rattle.gix_odb.proofs.ModeLemmas.{by_mode-all}
 use Rattle.gix_odb.proofs.MissLaws.Replies.{EndsNoMiss, IsMiss, found_is_no_miss, refused_is_no_miss, verdict_is_no_miss}
 use Rattle.gix_odb.specs.Store.{listed_for}
 
@@ -96,10 +97,22 @@ module _ (setting : Setting) (want : Want) where
   refused_mars error = refused_is_no_miss want (call_errors.Find (find_errors.LoadIndex error))
 
   module _ (head : LookHead) where
+    marred_ended : (notes : Notes) → IsNoted notes → IsMarred (ended head.want notes)
+    marred_ended notes noted = by notes.failed noted
+      where
+        by : (b : Bool) → b ≡ true → IsMarred (cond b (stages.Done (load_refused load_errors.Io)) (stages.Done (not_found head.want)))
+        by true is = refused_mars load_errors.Io
+        by false is = absurd (cc is)
+
+    -- a list of the core was tried, and the loose folders
+    marred_core_list : (list_no : ℕ) (notes : Notes) → IsNoted notes → IsMarred (after_core_list setting head list_no notes)
+    marred_core_list list_no notes noted =
+        by_mode-all IsMarred (ended head.want notes) (listing_from setting list_no notes) head.mode (marred_ended notes noted) (inl noted)
+
     marred_list : (part : Part) (notes : Notes) → IsNoted notes → IsMarred (after_list setting head part notes)
     marred_list parts.Snapshot notes noted = noted
     marred_list (parts.List list_no true) notes noted = noted
-    marred_list (parts.List list_no false) notes noted = inl noted
+    marred_list (parts.List list_no false) notes noted = marred_core_list list_no notes noted
     marred_list (parts.Published list_no) notes noted = noted
 
     marred_tried : (part : Part) (result : Tried) → NotedIn result → IsMarred (by_tried setting head part result)
@@ -114,10 +127,11 @@ module _ (setting : Setting) (want : Want) where
         let ahead : Ahead = record { indices = view.snapshot.indices; todo = view.todo; notes = notes } in
         marred_tried part (seek (goal_of setting head) ahead) (noted_seek (goal_of setting head) ahead noted)
 
-    marred_loose : (part : Part) (notes : Notes) → IsNoted notes → IsMarred (after_loose setting part notes)
+    marred_loose : (part : Part) (notes : Notes) → IsNoted notes → IsMarred (after_loose setting head part notes)
     marred_loose parts.Snapshot notes noted = noted
-    marred_loose (parts.List list_no loose) notes noted = inl noted
-    marred_loose (parts.Published list_no) notes noted = noted
+    marred_loose (parts.List list_no loose) notes noted = marred_core_list list_no notes noted
+    marred_loose (parts.Published list_no) notes noted =
+        by_mode-all IsMarred (ended head.want notes) (stages.Checking list_no notes) head.mode (marred_ended notes noted) noted
 
     marred_folder : (round : LooseRound) → IsNoted round.notes → (folder : Option Path) → IsMarred (at_folder setting head round folder)
     marred_folder round noted None = marred_loose round.part round.notes noted
@@ -140,13 +154,6 @@ module _ (setting : Setting) (want : Want) where
     marred_counted true now next marred = refused_mars (load_errors.Unsettled (unwrap_or head.begun now) head.own now)
     marred_counted false now next marred = marred
 
-    marred_ended : (notes : Notes) → IsNoted notes → IsMarred (ended head.want notes)
-    marred_ended notes noted = by notes.failed noted
-      where
-        by : (b : Bool) → b ≡ true → IsMarred (cond b (stages.Done (load_refused load_errors.Io)) (stages.Done (not_found head.want)))
-        by true is = refused_mars load_errors.Io
-        by false is = absurd (cc is)
-
     marred_check : (list_no : ℕ) (notes : Notes) → IsNoted notes → (view : Option View) → IsMarred (by_checked setting head list_no notes view)
     marred_check list_no notes noted None = noted
     marred_check list_no notes noted (Some view) = by (view.list_no == list_no)
@@ -157,7 +164,9 @@ module _ (setting : Setting) (want : Want) where
 
     marred_read : (purpose : Purpose) (view : View) (notes : Notes) → IsNoted notes → IsMarred (by_read setting head purpose view notes)
     marred_read (purposes.First loose) view notes noted = marred_view (parts.List view.list_no loose) view notes noted
-    marred_read purposes.Again view notes noted = inl noted
+    marred_read purposes.Again view notes noted =
+        by_mode-all IsMarred (stages.Refreshing fronts.Reading (purposes.First true) notes) (listing_from setting view.list_no notes) head.mode noted
+        (inl noted)
 
   -- ---- what is marred stays marred
 

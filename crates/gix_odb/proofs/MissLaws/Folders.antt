@@ -12,8 +12,10 @@ use Rattle.gix_odb_events.specs.declared.answer.Ask.{Ask}
 use Rattle.gix_odb_events.specs.declared.answer.Ask.TheVariants as asks
 use Rattle.gix_odb_search.specs.TryOrder.{seek}
 use Rattle.gix_odb_search.specs.declared.search.Notes.{Notes}
+use Rattle.gix_odb_search.specs.declared.trier.Ahead.{Ahead}
 use Rattle.gix_odb_search.specs.declared.trier.Tried.{Tried}
 use Rattle.gix_odb_search.specs.declared.trier.Tried.TheVariants as tried
+use Rattle.gix_odb_search.specs.declared.trier.Trier.{Trier}
 use Rattle.gix_odb_calls.specs.Verdict.{asking, folder_ask, folder_verdict}
 use Rattle.gix_odb_calls.specs.declared.verdict.FolderCall.{FolderCall}
 use Rattle.gix_odb_calls.specs.declared.call.CallError.TheVariants as call_errors
@@ -24,7 +26,7 @@ use Rattle.gix_object.specs.declared.want.Want.{Want}
 use Rattle.gix_odb_calls.specs.declared.verdict.Verdict.{Verdict}
 use Rattle.gix_odb_calls.specs.declared.verdict.Verdict.TheVariants as verdicts
 use Rattle.gix_odb.specs.LoadIndex.{of_refusal}
-use Rattle.gix_odb.specs.LookUpOrder.{Setting, after_list, after_loose, ask_at, at_folder, by_checked, by_read, by_refresh, by_tried}
+use Rattle.gix_odb.specs.LookUpOrder.{Setting, after_core_list, after_list, after_loose, ask_at, at_folder, by_checked, by_read, by_refresh, by_tried}
 use Rattle.gix_odb.specs.LookUpOrder.{by_verdict}
 use Rattle.gix_odb.specs.LookUpOrder.{counted, ended, fed, fed_at, find_error, goal_of, is_unsettled, listing_from, load_refused}
 use Rattle.gix_odb.specs.LookUpOrder.{loose_from, new_head, not_found}
@@ -44,7 +46,10 @@ use Rattle.gix_odb.specs.declared.look_up.Part.{Part}
 use Rattle.gix_odb.specs.declared.look_up.Part.TheVariants as parts
 use Rattle.gix_odb.specs.declared.look_up.Purpose.{Purpose}
 use Rattle.gix_odb.specs.declared.look_up.Purpose.TheVariants as purposes
+use Rattle.gix_odb.specs.declared.refresh_mode.RefreshMode.{RefreshMode}
+use Rattle.gix_odb_search.proofs.NotedLaws.{IsNoted, IsNotedBy, NotedIn, noted_answer, noted_seek}
 use Rattle.gix_odb_search.proofs.ReachLemmas.{first_or_later}
+use Rattle.gix_odb.proofs.ModeLemmas.{by_mode-all}
 use Rattle.gix_odb.proofs.MissLaws.Lists.{drop_none, first_in, found_at, here_or_behind, later_in, nothing_ahead}
 use Rattle.gix_odb.proofs.MissLaws.Replies.{EndsNoMiss, IsMiss, found_is_no_miss, refused_is_no_miss, verdict_is_no_miss}
 use Rattle.gix_odb.specs.Store.{listed_for}
@@ -71,11 +76,21 @@ module _ (setting : Setting) (want : Want) (id : ObjectId) (exchanges : List Exc
     pub call_is : call ≡ asking setting.parts.alloc_limit_bytes want id asked
     pub past : round.notes.failed ≡ false → IsPast (λ folder. (asked ≡ folder) ⊎ Behind round.next folder)
 
+  -- where the core's list is tried that comes after the loose folders, these were missed, or a failure was noted
+  abbrev WerePassed : Part → (noted : Type 0) → Type 0
+  WerePassed (parts.List list_no false) noted = noted ⊎ AllMissed
+  WerePassed part noted = Unit {0}
+
+  -- so they were where this list is to be read
+  abbrev WereMissed : Purpose → Notes → Type 0
+  WereMissed (purposes.First false) notes = notes.failed ≡ false → AllMissed
+  WereMissed purpose notes = Unit {0}
+
   -- what is known at each stage of the folders that were asked
   abbrev pub IsPassing : LookStage → Type 0
-  IsPassing (stages.Trying trier part) = Unit {0}
+  IsPassing (stages.Trying trier part) = WerePassed part (IsNotedBy trier)
   IsPassing (stages.Loose round call) = IsAsking round call
-  IsPassing (stages.Refreshing refresh purpose notes) = Unit {0}
+  IsPassing (stages.Refreshing refresh purpose notes) = WereMissed purpose notes
   IsPassing (stages.Checking list_no notes) = notes.failed ≡ false → AllMissed
   IsPassing (stages.Done reply) = IsMiss want reply → AllMissed
 
@@ -105,25 +120,40 @@ module _ (setting : Setting) (want : Want) (id : ObjectId) (exchanges : List Exc
         by folder (inl is) = inl is
         by folder (inr later) = inr (subst (λ (rest : List Path). Contains rest folder) (sym (drop_none setting.parts.folders)) later)
 
-    list_passes : (part : Part) (notes : Notes) → IsPassing (after_list setting head part notes)
-    list_passes parts.Snapshot notes = loose_begins parts.Snapshot notes
-    list_passes (parts.List list_no true) notes = loose_begins (parts.List list_no true) notes
-    list_passes (parts.List list_no false) notes = tt
-    list_passes (parts.Published list_no) notes = loose_begins (parts.Published list_no) notes
+    ended_passes : (notes : Notes) → (notes.failed ≡ false → AllMissed) → (b : Bool) → notes.failed ≡ b
+        → IsPassing (cond b (stages.Done (load_refused load_errors.Io)) (stages.Done (not_found head.want)))
+    ended_passes notes missed true is = refused_passes load_errors.Io
+    ended_passes notes missed false is = λ miss. missed is
 
-    tried_passes : (part : Part) (result : Tried) → IsPassing (by_tried setting head part result)
-    tried_passes part (tried.More trier) = tt
-    tried_passes part (tried.Hit what) = λ is. absurd (found_is_no_miss want what is)
-    tried_passes part (tried.Missed notes) = list_passes part notes
-    tried_passes part (tried.Bad error) = λ is. absurd (refused_is_no_miss want (call_errors.Find (find_error error)) is)
-    tried_passes part (tried.Broken refusal) = refused_passes (of_refusal refusal)
+    -- a list of the core was tried, and the loose folders
+    core_list_passes : (list_no : ℕ) (notes : Notes) → (notes.failed ≡ false → AllMissed) → IsPassing (after_core_list setting head list_no notes)
+    core_list_passes list_no notes missed =
+        by_mode-all IsPassing (ended head.want notes) (listing_from setting list_no notes) head.mode (ended_passes notes missed notes.failed refl) tt
+
+    unless_noted : (notes : Notes) → IsNoted notes ⊎ AllMissed → notes.failed ≡ false → AllMissed
+    unless_noted notes (inl noted) none = let wrong : false ≡ true = sym none ∙ noted in absurd (cc wrong)
+    unless_noted notes (inr missed) none = missed
+
+    list_passes : (part : Part) (notes : Notes) → WerePassed part (IsNoted notes) → IsPassing (after_list setting head part notes)
+    list_passes parts.Snapshot notes passed = loose_begins parts.Snapshot notes
+    list_passes (parts.List list_no true) notes passed = loose_begins (parts.List list_no true) notes
+    list_passes (parts.List list_no false) notes passed = core_list_passes list_no notes (unless_noted notes passed)
+    list_passes (parts.Published list_no) notes passed = loose_begins (parts.Published list_no) notes
+
+    tried_passes : (part : Part) (result : Tried) → WerePassed part (NotedIn result) → IsPassing (by_tried setting head part result)
+    tried_passes part (tried.More trier) passed = passed
+    tried_passes part (tried.Hit what) passed = λ is. absurd (found_is_no_miss want what is)
+    tried_passes part (tried.Missed notes) passed = list_passes part notes passed
+    tried_passes part (tried.Bad error) passed = λ is. absurd (refused_is_no_miss want (call_errors.Find (find_error error)) is)
+    tried_passes part (tried.Broken refusal) passed = refused_passes (of_refusal refusal)
 
     -- ---- loose folders
 
-    loose_passes : (part : Part) (notes : Notes) → (notes.failed ≡ false → AllMissed) → IsPassing (after_loose setting part notes)
-    loose_passes parts.Snapshot notes missed = tt
-    loose_passes (parts.List list_no loose) notes missed = tt
-    loose_passes (parts.Published list_no) notes missed = missed
+    loose_passes : (part : Part) (notes : Notes) → (notes.failed ≡ false → AllMissed) → IsPassing (after_loose setting head part notes)
+    loose_passes parts.Snapshot notes missed = missed
+    loose_passes (parts.List list_no loose) notes missed = core_list_passes list_no notes missed
+    loose_passes (parts.Published list_no) notes missed =
+        by_mode-all IsPassing (ended head.want notes) (stages.Checking list_no notes) head.mode (ended_passes notes missed notes.failed refl) missed
 
     folder_passes : (round : LooseRound) → (round.notes.failed ≡ false → IsPast (Behind round.next)) → (next : Option Path)
         → slice_get setting.parts.folders round.next ≡ next → IsPassing (at_folder setting head round next)
@@ -176,11 +206,6 @@ module _ (setting : Setting) (want : Want) (id : ObjectId) (exchanges : List Exc
 
     -- ---- reads of the core's state
 
-    ended_passes : (notes : Notes) → (notes.failed ≡ false → AllMissed) → (b : Bool) → notes.failed ≡ b
-        → IsPassing (cond b (stages.Done (load_refused load_errors.Io)) (stages.Done (not_found head.want)))
-    ended_passes notes missed true is = refused_passes load_errors.Io
-    ended_passes notes missed false is = λ miss. missed is
-
     counted_passes : (b : Bool) (now : ℕ) (next : LookStage) → IsPassing next → IsPassing (cond b (unsettled head now) next)
     counted_passes true now next passes = refused_passes _
     counted_passes false now next passes = passes
@@ -196,41 +221,60 @@ module _ (setting : Setting) (want : Want) (id : ObjectId) (exchanges : List Exc
     checked_passes list_no notes passes None = passes
     checked_passes list_no notes passes (Some view) = check_passes list_no view notes passes (view.list_no == list_no)
 
-    view_passes : (part : Part) (view : View) (notes : Notes) → IsPassing (try_view setting head part view view.todo notes)
-    view_passes part view notes =
-        tried_passes part (seek (goal_of setting head) (record { indices = view.snapshot.indices; todo = view.todo; notes = notes }))
+    view_passes : (part : Part) (view : View) (notes : Notes)
+        → WerePassed part (NotedIn (seek (goal_of setting head) (record { indices = view.snapshot.indices; todo = view.todo; notes = notes })))
+        → IsPassing (try_view setting head part view view.todo notes)
+    view_passes part view notes passed =
+        tried_passes part (seek (goal_of setting head) (record { indices = view.snapshot.indices; todo = view.todo; notes = notes })) passed
 
-    read_passes : (purpose : Purpose) (view : View) (notes : Notes) → IsPassing (by_read setting head purpose view notes)
-    read_passes (purposes.First loose) view notes = view_passes (parts.List view.list_no loose) view notes
-    read_passes purposes.Again view notes = tt
+    noted_or_missed : (ahead : Ahead) → (ahead.notes.failed ≡ false → AllMissed) → (b : Bool) → ahead.notes.failed ≡ b
+        → NotedIn (seek (goal_of setting head) ahead) ⊎ AllMissed
+    noted_or_missed ahead missed true is = inl (noted_seek (goal_of setting head) ahead is)
+    noted_or_missed ahead missed false is = inr (missed is)
+
+    read_passes : (purpose : Purpose) (view : View) (notes : Notes) → WereMissed purpose notes → IsPassing (by_read setting head purpose view notes)
+    read_passes (purposes.First true) view notes missed = view_passes (parts.List view.list_no true) view notes tt
+    read_passes (purposes.First false) view notes missed =
+        view_passes (parts.List view.list_no false) view notes
+        (noted_or_missed (record { indices = view.snapshot.indices; todo = view.todo; notes = notes }) missed notes.failed refl)
+    read_passes purposes.Again view notes missed =
+        by_mode-all IsPassing (stages.Refreshing fronts.Reading (purposes.First true) notes) (listing_from setting view.list_no notes) head.mode tt tt
     -- ---- an answer
 
   pub record IsLookPassing (look : LookUp) : Type 0 where
     pub own : IsFor look.head
     pub stage : IsPassing look.stage
 
-  refresh_passes : (head : LookHead) → IsFor head → (purpose : Purpose) (notes : Notes) (step : RefreshStep)
+  refresh_passes : (head : LookHead) → IsFor head → (purpose : Purpose) (notes : Notes) → WereMissed purpose notes → (step : RefreshStep)
       → IsLookPassing (by_refresh setting head purpose notes step)
-  refresh_passes head own purpose notes (steps.More refresh) = record { own = own; stage = tt }
-  refresh_passes head own purpose notes (steps.Read view) = record { own = own; stage = read_passes head own purpose view notes }
-  refresh_passes head own purpose notes (steps.Current view true) =
+  refresh_passes head own purpose notes missed (steps.More refresh) = record { own = own; stage = missed }
+  refresh_passes head own purpose notes missed (steps.Read view) = record { own = own; stage = read_passes head own purpose view notes missed }
+  refresh_passes head own purpose notes missed (steps.Current view true) =
       let own_too : IsFor (with_own head) = record { want_is = own.want_is; id_is = own.id_is } in
-      record { own = own_too; stage = view_passes (with_own head) own_too (parts.Published view.list_no) view (without_absent notes) }
-  refresh_passes head own purpose notes (steps.Current view false) =
-      record { own = own; stage = view_passes head own (parts.Published view.list_no) view (without_absent notes) }
-  refresh_passes head own purpose notes (steps.Outdated list_no) =
+      record { own = own_too; stage = view_passes (with_own head) own_too (parts.Published view.list_no) view (without_absent notes) tt }
+  refresh_passes head own purpose notes missed (steps.Current view false) =
+      record { own = own; stage = view_passes head own (parts.Published view.list_no) view (without_absent notes) tt }
+  refresh_passes head own purpose notes missed (steps.Outdated list_no) =
       record { own = own; stage = counted_passes head own (is_unsettled setting head list_no) list_no (stages.Refreshing fronts.Reading purposes.Again notes) tt }
-  refresh_passes head own purpose notes (steps.Refused error) = record { own = own; stage = refused_passes head own error }
+  refresh_passes head own purpose notes missed (steps.Refused error) = record { own = own; stage = refused_passes head own error }
+
+  -- a failure that was noted while a list is tried stays noted
+  passed_on : (trier : Trier) (answer : Answer) (part : Part) → WerePassed part (IsNotedBy trier) → WerePassed part (NotedIn (trier_fed trier answer))
+  passed_on trier answer parts.Snapshot passed = tt
+  passed_on trier answer (parts.List list_no true) passed = tt
+  passed_on trier answer (parts.List list_no false) (inl noted) = inl (noted_answer trier.goal trier.ahead trier.stage noted answer)
+  passed_on trier answer (parts.List list_no false) (inr missed) = inr missed
+  passed_on trier answer (parts.Published list_no) passed = tt
 
   stage_passes : (head : LookHead) → IsFor head → (stage : LookStage) → IsPassing stage → (ask : Ask) (answer : Answer) → ask_at stage ≡ Some ask
       → WasTold exchanges ask answer → IsLookPassing (fed_at setting head stage answer)
   stage_passes head own (stages.Trying trier part) passes ask answer is was =
-      record { own = own; stage = tried_passes head own part (trier_fed trier answer) }
+      record { own = own; stage = tried_passes head own part (trier_fed trier answer) (passed_on trier answer part passes) }
   stage_passes head own (stages.Loose round call) passes ask (told.Disk answer) is was =
       record { own = own; stage = asked_passes head own round call passes ask answer is was }
   stage_passes head own (stages.Loose round call) passes ask (told.Core answer) is was = record { own = own; stage = passes }
   stage_passes head own (stages.Refreshing refresh purpose notes) passes ask answer is was =
-      refresh_passes head own purpose notes (refreshes.fed setting.parts.objects (listed_for setting.parts) refresh answer)
+      refresh_passes head own purpose notes passes (refreshes.fed setting.parts.objects (listed_for setting.parts) refresh answer)
   stage_passes head own (stages.Checking list_no notes) passes ask (told.Disk answer) is was = record { own = own; stage = passes }
   stage_passes head own (stages.Checking list_no notes) passes ask (told.Core (Ok effect)) is was =
       record { own = own; stage = checked_passes head own list_no notes passes (view_shown effect) }
@@ -245,17 +289,17 @@ module _ (setting : Setting) (want : Want) (id : ObjectId) (exchanges : List Exc
       stage_passes (seen look.head answer) (record { want_is = passing.own.want_is; id_is = passing.own.id_is })
       look.stage passing.stage ask answer is was
 
-  pub passes_at_start : (view : View) → IsLookPassing (started setting view want id)
-  passes_at_start view = record { own = record { want_is = refl; id_is = refl }; stage = by view.read }
+  pub passes_at_start : (mode : RefreshMode) (view : View) → IsLookPassing (started setting mode view want id)
+  passes_at_start mode view = record { own = record { want_is = refl; id_is = refl }; stage = by view.read }
     where
-      own : IsFor (new_head want id)
+      own : IsFor (new_head mode want id)
       own = record { want_is = refl; id_is = refl }
 
       by : (b : Bool)
-          → IsPassing (cond b (try_view setting (new_head want id) parts.Snapshot view [] without_notes) (stages.Refreshing fronts.Reading (purposes.First true) without_notes))
+          → IsPassing (cond b (try_view setting (new_head mode want id) parts.Snapshot view [] without_notes) (stages.Refreshing fronts.Reading (purposes.First true) without_notes))
       by true =
-          tried_passes (new_head want id) own parts.Snapshot
-          (seek (goal_of setting (new_head want id)) (record { indices = view.snapshot.indices; todo = []; notes = without_notes }))
+          tried_passes (new_head mode want id) own parts.Snapshot
+          (seek (goal_of setting (new_head mode want id)) (record { indices = view.snapshot.indices; todo = []; notes = without_notes })) tt
       by false = tt
 
   -- at its end each folder was missed

@@ -1,4 +1,5 @@
--- A look-up for an object that stays unchanged in a pack stays on its track: what it knows leads to the object's index.
+-- A look-up for an object that stays unchanged in a pack, by a handle that refreshes its list, stays on its track: what it knows leads to the object's
+-- index.
 use Rattle.std.proofs.Common.{◌≡◌, ◌⊎◌, inl, inr, ℕ, Bool, true, false, cond, List, [], ◌∷◌, ◌++◌, slice_get, unwrap_or, Contains, Option, Some, None}
 use Rattle.std.proofs.Common.{Ok, Err}
 use Rattle.std.proofs.Common.{refl, sym, subst}
@@ -45,9 +46,9 @@ use Rattle.gix_odb.specs.Fair.{AreFair, HasRowOf, IsCarried, IsFair, IsItsIndex,
 use Rattle.gix_odb.specs.Stream.{Stream, stream_by, stream_in}
 use Rattle.gix_odb.proofs.ListerLaws.Streams.{stream_in-push}
 use Rattle.gix_odb.specs.LoadIndex.{of_refusal}
-use Rattle.gix_odb.specs.LookUpOrder.{Setting, after_list, after_loose, ask_at, at_folder, by_read, by_refresh, by_tried}
+use Rattle.gix_odb.specs.LookUpOrder.{Setting, again, after_core_list, after_list, after_loose, ask_at, at_folder, by_read, by_refresh, by_tried}
 use Rattle.gix_odb.specs.LookUpOrder.{by_verdict}
-use Rattle.gix_odb.specs.LookUpOrder.{fed, fed_at, find_error, goal_of, is_unsettled, listing_from, not_found, result_at}
+use Rattle.gix_odb.specs.LookUpOrder.{ended, fed, fed_at, find_error, goal_of, is_unsettled, listing_from, not_found, result_at}
 use Rattle.gix_odb.specs.LookUpOrder.{result_of, seen, started, trier_fed, try_view}
 use Rattle.gix_odb.specs.LookUpOrder.{unsettled, view_shown, with_own, without_absent, without_notes, new_head}
 use Rattle.gix_odb.specs.Shown.{folders_of}
@@ -65,6 +66,9 @@ use Rattle.gix_odb.specs.declared.look_up.Part.{Part}
 use Rattle.gix_odb.specs.declared.look_up.Part.TheVariants as parts
 use Rattle.gix_odb.specs.declared.look_up.Purpose.{Purpose}
 use Rattle.gix_odb.specs.declared.look_up.Purpose.TheVariants as purposes
+use Rattle.gix_odb.specs.RefreshMode.{by_mode}
+use Rattle.gix_odb.specs.declared.refresh_mode.RefreshMode.{RefreshMode}
+use Rattle.gix_odb.specs.declared.refresh_mode.RefreshMode.TheVariants.{AfterAllIndicesLoaded}
 use Rattle.gix_odb.proofs.MissLaws.Carried.{HasRow, IsCarrierRow}
 use Rattle.gix_odb.proofs.MissLaws.Listing.{IsOnWay, StepsOn, begins, listing_goes}
 use Rattle.gix_odb.proofs.MissLaws.Replies.{EndsNoMiss, IsMiss, found_is_no_miss, refused_is_no_miss, verdict_is_no_miss}
@@ -108,25 +112,37 @@ module _ (setting : Setting) (hash : Kind) (want : Want) (id : ObjectId) (of_has
   IsOn stream (stages.Checking list_no notes) = ⊥
   IsOn stream (stages.Done reply) = ¬ (IsMiss want reply)
 
-  -- the look-up wants this of this id
+  -- the look-up wants this of this id, and refreshes its list
   pub record IsFor (head : LookHead) : Type 0 where
     pub want_is : head.want ≡ want
     pub id_is : head.id ≡ id
+    pub refreshes : head.mode ≡ AfterAllIndicesLoaded
 
   pub record IsLookOn (stream : Option Stream) (look : LookUp) : Type 0 where
     pub own : IsFor look.head
     pub stage : IsOn stream look.stage
 
-  module _ (stream : Option Stream) (head : LookHead) where
+  module _ (stream : Option Stream) (head : LookHead) (own : IsFor head) where
     listing_on : (base : ℕ) (notes : Notes) → IsOn stream (listing_from setting base notes)
     listing_on base notes = begins store hash id place carried setting.parts.objects base stream among
+
+    -- the folders are listed after a list of the core
+    core_list_on : (list_no : ℕ) (notes : Notes) → IsOn stream (after_core_list setting head list_no notes)
+    core_list_on list_no notes =
+        subst (λ (mode : RefreshMode). IsOn stream (by_mode (ended head.want notes) (listing_from setting list_no notes) mode)) (sym own.refreshes)
+        (listing_on list_no notes)
+
+    again_on : (list_no : ℕ) (notes : Notes) → IsOn stream (again setting head list_no notes)
+    again_on list_no notes =
+        subst (λ (mode : RefreshMode). IsOn stream (by_mode (stages.Refreshing fronts.Reading (purposes.First true) notes) (listing_from setting list_no notes) mode))
+        (sym own.refreshes) (listing_on list_no notes)
 
     -- ---- lists
 
     list_goes : (part : Part) → IsEarly part → (notes : Notes) → IsOn stream (after_list setting head part notes)
     list_goes parts.Snapshot early notes = tt
     list_goes (parts.List list_no true) early notes = tt
-    list_goes (parts.List list_no false) early notes = listing_on list_no notes
+    list_goes (parts.List list_no false) early notes = core_list_on list_no notes
     list_goes (parts.Published list_no) early notes = absurd early
 
     early_tries : (part : Part) → IsEarly part → (trier : Trier) → TriesOn part trier
@@ -157,9 +173,9 @@ module _ (setting : Setting) (hash : Kind) (want : Want) (id : ObjectId) (of_has
 
     -- ---- loose folders
 
-    loose_goes : (part : Part) → IsEarly part → (notes : Notes) → IsOn stream (after_loose setting part notes)
+    loose_goes : (part : Part) → IsEarly part → (notes : Notes) → IsOn stream (after_loose setting head part notes)
     loose_goes parts.Snapshot early notes = tt
-    loose_goes (parts.List list_no loose) early notes = listing_on list_no notes
+    loose_goes (parts.List list_no loose) early notes = core_list_on list_no notes
     loose_goes (parts.Published list_no) early notes = absurd early
 
     folder_goes : (round : LooseRound) → IsEarly round.part → (folder : Option Path) → IsOn stream (at_folder setting head round folder)
@@ -177,14 +193,14 @@ module _ (setting : Setting) (hash : Kind) (want : Want) (id : ObjectId) (of_has
 
     read_goes : (purpose : Purpose) (view : View) (notes : Notes) → IsOn stream (by_read setting head purpose view notes)
     read_goes (purposes.First loose) view notes = early_goes (parts.List view.list_no loose) tt (tries_view setting head view notes)
-    read_goes purposes.Again view notes = listing_on view.list_no notes
+    read_goes purposes.Again view notes = again_on view.list_no notes
 
     counted_goes : (b : Bool) (now : ℕ) (notes : Notes) → IsOn stream (cond b (unsettled head now) (stages.Refreshing fronts.Reading purposes.Again notes))
     counted_goes true now notes =
         refused_is_no_miss want (call_errors.Find (find_errors.LoadIndex (load_errors.Unsettled (unwrap_or head.begun now) head.own now)))
     counted_goes false now notes = tt
 
-    module _ (own : IsFor head) (purpose : Purpose) (notes : Notes) where
+    module _ (purpose : Purpose) (notes : Notes) where
       abbrev StepOn : RefreshStep → Type 0
       StepOn step = IsLookOn stream (by_refresh setting head purpose notes step)
 
@@ -225,7 +241,7 @@ module _ (setting : Setting) (hash : Kind) (want : Want) (id : ObjectId) (of_has
       )
   index_ahead row at view fair slot (inr listed) = inr (record { slot = slot; path = row.path }, listed, at)
 
-  row_ahead : (row : ListingRow) → IsCarrierRow store.multi hash id place row → (view : View) → IsViewFair store.multi hash id place view
+  pub row_ahead : (row : ListingRow) → IsCarrierRow store.multi hash id place row → (view : View) → IsViewFair store.multi hash id place view
       → HasRowOf view row row.multi → Ahead view
   row_ahead row (inl (single, at)) view fair has =
       let listed = subst (HasRowOf view row) single has in index_ahead row at view fair listed.0 listed.1
@@ -239,13 +255,13 @@ module _ (setting : Setting) (hash : Kind) (want : Want) (id : ObjectId) (of_has
       → ((row : ListingRow) → Contains listing.rows row → HasRowOf view row row.multi)
       → IsOn stream (try_view setting head (parts.Published view.list_no) view view.todo notes)
   view_goes stream head own listing has notes none view fair rows =
-      published_goes stream head view.list_no (tries_view setting head view notes)
+      published_goes stream head own view.list_no (tries_view setting head view notes)
       (seek_goes hash id (pack_at place) (IsItsIndex place) (goal_of setting head) own.id_is
       (record { indices = view.snapshot.indices; todo = view.todo; notes = notes })
       (subst (IsPresent (pack_at place)) (sym none) (present_at_first (pack_at place)))
       (row_ahead has.0 has.2 view fair (rows has.0 has.1)))
 
-  rows_in : (listing : Listing) (view : View) → All (λ (row : ListingRow). HasRowOf view row row.multi) listing.rows
+  pub rows_in : (listing : Listing) (view : View) → All (λ (row : ListingRow). HasRowOf view row row.multi) listing.rows
       → (row : ListingRow) → Contains listing.rows row → HasRowOf view row row.multi
   rows_in listing view all row has = All-contains (λ (r : ListingRow). HasRowOf view r r.multi) listing.rows row all has
 
@@ -253,7 +269,7 @@ module _ (setting : Setting) (hash : Kind) (want : Want) (id : ObjectId) (of_has
       → RowThere listing.rows → (effect : Effect) → IsFair store.multi hash id place past (asks.Core (events.Publish listing)) (told.Core (Ok effect))
       → IsLookOn stream (by_refresh setting head purpose notes (by_published listing effect))
   publish_goes stream past head own listing purpose notes has (effects.Published view) fair =
-      let own_too : IsFor (with_own head) = record { want_is = own.want_is; id_is = own.id_is } in
+      let own_too : IsFor (with_own head) = record { want_is = own.want_is; id_is = own.id_is; refreshes = own.refreshes } in
       record {
         own = own_too;
         stage =
@@ -265,7 +281,7 @@ module _ (setting : Setting) (hash : Kind) (want : Want) (id : ObjectId) (of_has
     stage = view_goes stream head own listing has (without_absent notes) refl view (fair.0 view refl) (rows_in listing view (fair.1 view (inr refl)));
   }
   publish_goes stream past head own listing purpose notes has (effects.Outdated list_no) fair =
-      record { own = own; stage = counted_goes stream head (is_unsettled setting head list_no) list_no notes }
+      record { own = own; stage = counted_goes stream head own (is_unsettled setting head list_no) list_no notes }
   publish_goes stream past head own listing purpose notes has effect fair = record { own = own; stage = has }
 
   -- ---- an exchange
@@ -277,7 +293,7 @@ module _ (setting : Setting) (hash : Kind) (want : Want) (id : ObjectId) (of_has
   stage_goes past head own (stages.Trying trier part) on ask answer is fair =
       let own_ask = same_Some _ ask is in
       let fair_there = subst (λ (a : Ask). IsFair store.multi hash id place past a answer) (sym own_ask) fair in
-      record { own = own; stage = tried_goes (stream_by (stream_in past) ask answer) head part (trier_fed trier answer) (by part on fair_there) }
+      record { own = own; stage = tried_goes (stream_by (stream_in past) ask answer) head own part (trier_fed trier answer) (by part on fair_there) }
     where
       by : (p : Part) → TriesOn p trier → IsFair store.multi hash id place past (tries.ask_of trier) answer
           → IsEarly p ⊎ MissesNot (trier_fed trier answer)
@@ -288,7 +304,7 @@ module _ (setting : Setting) (hash : Kind) (want : Want) (id : ObjectId) (of_has
       record {
         own = own;
         stage =
-            verdict_goes (stream_by (stream_in past) ask (told.Disk answer)) head round on (folder_verdict call answer) (verdict_is_no_miss want call answer);
+            verdict_goes (stream_by (stream_in past) ask (told.Disk answer)) head own round on (folder_verdict call answer) (verdict_is_no_miss want call answer);
       }
   stage_goes past head own (stages.Loose round call) on ask (told.Core answer) is fair = record { own = own; stage = on }
   stage_goes past head own (stages.Refreshing fronts.Reading purpose notes) on ask (told.Disk answer) is fair = record { own = own; stage = on }
@@ -318,7 +334,7 @@ module _ (setting : Setting) (hash : Kind) (want : Want) (id : ObjectId) (of_has
   look_on : (past : List Exchange) (look : LookUp) → IsLookOn (stream_in past) look → (ask : Ask) (answer : Answer) → ask_at look.stage ≡ Some ask
       → IsFair store.multi hash id place past ask answer → IsLookOn (stream_by (stream_in past) ask answer) (fed setting look answer)
   look_on past look on ask answer is fair =
-      stage_goes past (seen look.head answer) (record { want_is = on.own.want_is; id_is = on.own.id_is }) look.stage on.stage ask answer is fair
+      stage_goes past (seen look.head answer) (record { want_is = on.own.want_is; id_is = on.own.id_is; refreshes = on.own.refreshes }) look.stage on.stage ask answer is fair
 
   -- ---- a whole look-up
 
@@ -335,12 +351,18 @@ module _ (setting : Setting) (hash : Kind) (want : Want) (id : ObjectId) (of_has
       (subst (λ (s : Option Stream). IsLookOn s (fed setting look exchange.answer)) (sym (stream_in-push past exchange)) next) exchanges asked.1 fair.1
 
   -- a new look-up is on its track
-  pub starts : (view : View) → IsLookOn None (started setting view want id)
-  starts view = record { own = record { want_is = refl; id_is = refl }; stage = by view.read }
+  pub starts : (view : View) → IsLookOn None (started setting AfterAllIndicesLoaded view want id)
+  starts view = record { own = own; stage = by view.read }
     where
+      head : LookHead
+      head = new_head AfterAllIndicesLoaded want id
+
+      own : IsFor head
+      own = record { want_is = refl; id_is = refl; refreshes = refl }
+
       by : (b : Bool)
-          → IsOn None (cond b (try_view setting (new_head want id) parts.Snapshot view [] without_notes) (stages.Refreshing fronts.Reading (purposes.First true) without_notes))
+          → IsOn None (cond b (try_view setting head parts.Snapshot view [] without_notes) (stages.Refreshing fronts.Reading (purposes.First true) without_notes))
       by true =
-          early_goes None (new_head want id) parts.Snapshot tt
-          (seek (goal_of setting (new_head want id)) (record { indices = view.snapshot.indices; todo = []; notes = without_notes }))
+          early_goes None head own parts.Snapshot tt
+          (seek (goal_of setting head) (record { indices = view.snapshot.indices; todo = []; notes = without_notes }))
       by false = tt

@@ -1,5 +1,5 @@
 -- What is left after a read of the core's state, and after a publish.
-use Rattle.std.proofs.Common.{Option, ◌≡◌, ◌≢◌, ℕ, suc, ◌+◌, ◌-◌, ◌≤◌, ◌<◌, Bool, true, false, ◌==◌, nat_lt, cond, length, Some, unwrap_or, Ok, refl, arith}
+use Rattle.std.proofs.Common.{Option, inl, inr, ap, ◌≡◌, ◌≢◌, ℕ, suc, ◌+◌, ◌-◌, ◌≤◌, ◌<◌, Bool, true, false, ◌==◌, nat_lt, cond, length, Some, unwrap_or, Ok, refl, arith}
 use Rattle.std.proofs.lemmas.Bool.{eqb-false, ltb-false}
 use Rattle.gix_odb_events.specs.declared.listing.Listing.{Listing}
 use Rattle.gix_odb_events.specs.declared.event.Effect.TheVariants as effects
@@ -13,6 +13,7 @@ use Rattle.gix_odb.specs.Laps.{HasFew}
 use Rattle.gix_odb.specs.Stream.{Stream}
 use Rattle.gix_odb.specs.LookUpOrder.{by_checked, by_refresh, counted, ended, first_of, is_unsettled, listing_from}
 use Rattle.gix_odb.specs.LookUpOrder.{load_refused, not_found, seen, unsettled, with_own, without_absent}
+use Rattle.gix_odb.specs.RefreshMode.{by_mode}
 use Rattle.gix_odb.specs.RefreshOrder.{by_published, by_view}
 use Rattle.gix_odb.specs.RefreshOrder as refreshes
 use Rattle.gix_odb.specs.declared.refresh.Refresh.TheVariants as fronts
@@ -23,9 +24,11 @@ use Rattle.gix_odb.specs.declared.look_up.LookStage.TheVariants as stages
 use Rattle.gix_odb.specs.declared.look_up.Part.TheVariants as parts
 use Rattle.gix_odb.specs.declared.look_up.Purpose.{Purpose}
 use Rattle.gix_odb.specs.declared.look_up.Purpose.TheVariants as purposes
-use Rattle.gix_odb.proofs.TurnLaws.TurnsLeft.{Bounds, HasFirst, HasFurther, HasLeft, LookHasLeft, OfPurpose, settling, trying}
-use Rattle.gix_odb.proofs.TurnLaws.LapsLeft.{IsFurther-begun, IsFurther-counted, IsFurther-later, IsFurther-on, IsFurther-published}
-use Rattle.gix_odb.proofs.TurnLaws.PartTurns.{listing_left, view_left}
+use Rattle.gix_odb.specs.declared.refresh_mode.RefreshMode.{RefreshMode}
+use Rattle.gix_odb.specs.declared.refresh_mode.RefreshMode.TheVariants.{AfterAllIndicesLoaded, Never}
+use Rattle.gix_odb.proofs.TurnLaws.TurnsLeft.{Bounds, HasFurther, HasLeft, LookHasLeft, OfPurpose, ReadsFirst, onward, settling, trying}
+use Rattle.gix_odb.proofs.TurnLaws.LapsLeft.{IsFurther-begun, IsFurther-counted, IsFurther-less, IsFurther-later, IsFurther-on, IsFurther-published}
+use Rattle.gix_odb.proofs.TurnLaws.PartTurns.{ended_left, listing_left, view_left}
 
 -- the head after a view
 abbrev shown : LookHead → View → LookHead
@@ -40,11 +43,6 @@ lists_of_others head now = now - unwrap_or head.begun now - head.own
 
 module _ (bounds : Bounds) where
   -- ---- a read of the core's state
-
-  ended_left : (head : LookHead) (failed : Bool) (one other : Reply) (before : ℕ) (stream : Option Stream) (turns : ℕ)
-      → HasLeft bounds head (cond failed (stages.Done one) (stages.Done other)) before stream turns
-  ended_left head true one other before stream turns = tt
-  ended_left head false one other before stream turns = tt
 
   -- a count ends the look-up, or few lists of others were met
   settled_left : (head : LookHead) (now before : ℕ) (stream : Option Stream) (turns : ℕ) (next : LookStage) (many : Bool)
@@ -67,28 +65,54 @@ module _ (bounds : Bounds) where
       (cond read (steps.Read view) (steps.More (refreshes.listing_from bounds.setting.parts.objects view.list_no))))
       view.list_no stream turns
 
+  onward_is_a_lap : (mode : RefreshMode) → by_mode 0 bounds.lap mode ≤ bounds.lap
+  onward_is_a_lap Never = omega arith
+  onward_is_a_lap AfterAllIndicesLoaded = omega arith
+
   first_left : (head : LookHead) (loose read : Bool) (before : ℕ) (stream : Option Stream) (turns : ℕ) (view : View) (notes : Notes) → before ≤ view.list_no
       → length view.snapshot.indices + length view.todo ≤ bounds.slots
-      → HasFirst bounds head before (trying bounds + 1) (suc turns)
+      → ReadsFirst bounds head before (suc turns)
       → Shows head (purposes.First loose) read stream turns view notes
-  first_left head loose true before stream turns view notes later few has =
+  first_left head loose true before stream turns view notes later few (inl has) =
+      let lap = onward_is_a_lap head.mode in
       view_left bounds (shown head view) (parts.List view.list_no loose) view.list_no stream turns view view.todo notes few
-      (IsFurther-begun view has later (omega arith))
-  first_left head loose false before stream turns view notes later few has =
+      (IsFurther-begun view has later (omega (arith, lap)))
+  first_left head loose false before stream turns view notes later few (inl has) =
       listing_left bounds (shown head view) view.list_no view.list_no stream turns notes (IsFurther-begun view has later (omega arith))
+  first_left head loose true before stream turns view notes later few (inr (never, has)) =
+      let none : onward bounds (shown head view) ≡ 0 = ap (λ (mode : RefreshMode). by_mode 0 bounds.lap mode) never in
+      let after : HasFurther bounds (shown head view) before view.list_no (bounds.lap - 1) turns =
+      IsFurther-on (seeing view) view.list_no has later (omega (arith, bounds.wide))
+      in
+      view_left bounds (shown head view) (parts.List view.list_no loose) view.list_no stream turns view view.todo notes few
+      (IsFurther-later view.list_no after later (omega (arith, none, bounds.wide)))
+  first_left head loose false before stream turns view notes later few (inr (never, has)) =
+      let after : HasFurther bounds (shown head view) before view.list_no (bounds.lap - 1) turns =
+      IsFurther-on (seeing view) view.list_no has later (omega (arith, bounds.wide))
+      in
+      listing_left bounds (shown head view) view.list_no view.list_no stream turns notes (IsFurther-later view.list_no after later (omega arith))
 
   again_left : (head : LookHead) (read : Bool) (before : ℕ) (stream : Option Stream) (turns : ℕ) (view : View) (notes : Notes) → before ≤ view.list_no
       → HasFurther bounds head before before (bounds.lap + 1) (suc turns)
       → Shows head purposes.Again read stream turns view notes
   again_left head read before stream turns view notes later has = by read
     where
-      left : HasLeft bounds (shown head view) (listing_from bounds.setting view.list_no notes) view.list_no stream turns
-      left =
+      after : HasFurther bounds (shown head view) view.list_no view.list_no bounds.lap turns
+      after =
           let behind : HasFurther bounds (shown head view) before view.list_no bounds.lap turns = IsFurther-on (seeing view) view.list_no has later (omega arith) in
-          listing_left bounds (shown head view) view.list_no view.list_no stream turns notes (IsFurther-later view.list_no behind later (omega arith))
+          IsFurther-later view.list_no behind later (omega arith)
+
+      left : HasLeft bounds (shown head view) (listing_from bounds.setting view.list_no notes) view.list_no stream turns
+      left = listing_left bounds (shown head view) view.list_no view.list_no stream turns notes (IsFurther-less after (omega arith))
+
+      again_by : (mode : RefreshMode) → head.mode ≡ mode
+          → HasLeft bounds (shown head view)
+          (by_mode (stages.Refreshing fronts.Reading (purposes.First true) notes) (listing_from bounds.setting view.list_no notes) mode) view.list_no stream turns
+      again_by Never is = inr (is, after)
+      again_by AfterAllIndicesLoaded is = left
 
       by : (read : Bool) → Shows head purposes.Again read stream turns view notes
-      by true = left
+      by true = again_by head.mode refl
       by false = left
 
   -- where the list that was tried is no longer the newest, others published one
@@ -100,7 +124,7 @@ module _ (bounds : Bounds) where
       (cond same (ended head.want notes) (counted bounds.setting (shown head view) view.list_no (listing_from bounds.setting view.list_no notes)))
       view.list_no stream turns
   check_left head number before stream turns view notes true is later has =
-      ended_left (shown head view) notes.failed (load_refused load_errors.Io) (not_found head.want) view.list_no stream turns
+      ended_left bounds (shown head view) notes.failed (load_refused load_errors.Io) (not_found head.want) view.list_no stream turns
   check_left head number before stream turns view notes false is later has =
       let other = eqb-false view.list_no number is in
       let behind : HasFurther bounds (shown head view) number view.list_no 1 (suc turns) = IsFurther-on (seeing view) view.list_no has later (omega arith) in

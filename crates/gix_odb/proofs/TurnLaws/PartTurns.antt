@@ -1,5 +1,5 @@
 -- What is left behind a list that was tried, and behind the loose folders.
-use Rattle.std.proofs.Common.{◌≡◌, ℕ, ◌+◌, ◌-◌, ◌*◌, ◌≤◌, true, false, List, length, slice_get, Option, Some, None, refl, arith}
+use Rattle.std.proofs.Common.{◌≡◌, ℕ, ◌+◌, ◌-◌, ◌*◌, ◌≤◌, Bool, true, false, cond, inl, List, length, slice_get, Option, Some, None, refl, arith}
 use Rattle.std.proofs.lemmas.Option.{slice_get_within}
 use Rattle.odb_base.specs.Path.{Path}
 use Rattle.gix_odb_events.specs.declared.loaded.Todo.{Todo}
@@ -10,25 +10,49 @@ use Rattle.gix_odb_search.specs.declared.search.Notes.{Notes}
 use Rattle.gix_odb_search.specs.declared.trier.Ahead.{Ahead}
 use Rattle.gix_odb_search.specs.declared.trier.Tried.{Tried}
 use Rattle.gix_odb_search.specs.declared.trier.Tried.TheVariants as tried
+use Rattle.gix_odb_calls.specs.declared.call.Reply.{Reply}
+use Rattle.gix_odb_calls.specs.declared.load_index.Error.TheVariants as load_errors
 use Rattle.gix_odb_calls.specs.declared.verdict.Verdict.{Verdict}
 use Rattle.gix_odb_calls.specs.declared.verdict.Verdict.TheVariants as verdicts
 use Rattle.gix_odb.specs.Stream.{Stream}
-use Rattle.gix_odb.specs.LookUpOrder.{after_list, after_loose, at_folder, by_tried}
-use Rattle.gix_odb.specs.LookUpOrder.{by_verdict, goal_of, listing_from, loose_from, try_view}
+use Rattle.gix_odb.specs.RefreshMode.{by_mode}
+use Rattle.gix_odb.specs.LookUpOrder.{after_core_list, after_list, after_loose, at_folder, by_tried}
+use Rattle.gix_odb.specs.LookUpOrder.{by_verdict, ended, goal_of, listing_from, load_refused, loose_from, not_found, try_view}
 use Rattle.gix_odb.specs.declared.look_up.LookHead.{LookHead}
+use Rattle.gix_odb.specs.declared.look_up.LookStage.{LookStage}
+use Rattle.gix_odb.specs.declared.look_up.LookStage.TheVariants as stages
 use Rattle.gix_odb.specs.declared.look_up.LooseRound.{LooseRound}
 use Rattle.gix_odb.specs.declared.look_up.Part.{Part}
 use Rattle.gix_odb.specs.declared.look_up.Part.TheVariants as parts
-use Rattle.gix_odb.proofs.TurnLaws.TurnsLeft.{Bounds, HasFurther, HasLeft, OfPart, OfPart-less, folders, trying}
+use Rattle.gix_odb.specs.declared.refresh_mode.RefreshMode.{RefreshMode}
+use Rattle.gix_odb.specs.declared.refresh_mode.RefreshMode.TheVariants.{AfterAllIndicesLoaded, Never}
+use Rattle.gix_odb.proofs.ModeLemmas.{by_mode-all}
+use Rattle.gix_odb.proofs.TurnLaws.TurnsLeft.{Bounds, HasFurther, HasLeft, OfPart, OfPart-less, folders, onward, trying}
 use Rattle.gix_odb.proofs.TurnLaws.LapsLeft.{IsFirst-less, IsFurther-less}
 
 module _ (bounds : Bounds) where
   -- ---- what follows a list
 
   pub listing_left : (head : LookHead) (base before : ℕ) (stream : Option Stream) (turns : ℕ) (notes : Notes)
-      → HasFurther bounds head base before bounds.lap turns
+      → HasFurther bounds head base before (bounds.lap - 1) turns
       → HasLeft bounds head (listing_from bounds.setting base notes) before stream turns
   listing_left head base before stream turns notes has = (tt, IsFurther-less has (omega (arith, bounds.wide)))
+
+  pub ended_left : (head : LookHead) (failed : Bool) (one other : Reply) (before : ℕ) (stream : Option Stream) (turns : ℕ)
+      → HasLeft bounds head (cond failed (stages.Done one) (stages.Done other)) before stream turns
+  ended_left head true one other before stream turns = tt
+  ended_left head false one other before stream turns = tt
+
+  -- a list of the core was tried, and the loose folders
+  core_list_left : (head : LookHead) (number before : ℕ) (stream : Option Stream) (turns : ℕ) (notes : Notes)
+      → HasFurther bounds head number before (onward bounds head) turns
+      → HasLeft bounds head (after_core_list bounds.setting head number notes) before stream turns
+  core_list_left head number before stream turns notes has = by head.mode has
+    where
+      by : (mode : RefreshMode) → HasFurther bounds head number before (by_mode 0 bounds.lap mode) turns
+          → HasLeft bounds head (by_mode (ended head.want notes) (listing_from bounds.setting number notes) mode) before stream turns
+      by Never has = ended_left head notes.failed (load_refused load_errors.Io) (not_found head.want) before stream turns
+      by AfterAllIndicesLoaded has = listing_left head number before stream turns notes (IsFurther-less has (omega arith))
 
   loose_left : (head : LookHead) (part : Part) (before : ℕ) (stream : Option Stream) (turns : ℕ) (notes : Notes)
       → OfPart bounds head part before (folders bounds + 1) turns
@@ -41,7 +65,7 @@ module _ (bounds : Bounds) where
       → HasLeft bounds head (after_list bounds.setting head part notes) before stream turns
   list_left head parts.Snapshot before stream turns notes has = loose_left head parts.Snapshot before stream turns notes has
   list_left head (parts.List number true) before stream turns notes has = loose_left head (parts.List number true) before stream turns notes has
-  list_left head (parts.List number false) before stream turns notes has = listing_left head number before stream turns notes (IsFurther-less has (omega arith))
+  list_left head (parts.List number false) before stream turns notes has = core_list_left head number before stream turns notes (IsFurther-less has (omega arith))
   list_left head (parts.Published number) before stream turns notes has = loose_left head (parts.Published number) before stream turns notes has
 
   -- ---- a list
@@ -71,10 +95,12 @@ module _ (bounds : Bounds) where
   -- ---- the loose folders
 
   loose_over : (head : LookHead) (part : Part) (before : ℕ) (stream : Option Stream) (turns : ℕ) (notes : Notes) → OfPart bounds head part before 0 turns
-      → HasLeft bounds head (after_loose bounds.setting part notes) before stream turns
-  loose_over head parts.Snapshot before stream turns notes has = IsFirst-less has (omega arith)
-  loose_over head (parts.List number loose) before stream turns notes has = listing_left head number before stream turns notes (IsFurther-less has (omega arith))
-  loose_over head (parts.Published number) before stream turns notes has = has
+      → HasLeft bounds head (after_loose bounds.setting head part notes) before stream turns
+  loose_over head parts.Snapshot before stream turns notes has = inl (IsFirst-less has (omega arith))
+  loose_over head (parts.List number loose) before stream turns notes has = core_list_left head number before stream turns notes (IsFurther-less has (omega arith))
+  loose_over head (parts.Published number) before stream turns notes has =
+      by_mode-all (λ (stage : LookStage). HasLeft bounds head stage before stream turns) (ended head.want notes) (stages.Checking number notes) head.mode
+      (ended_left head notes.failed (load_refused load_errors.Io) (not_found head.want) before stream turns) has
 
   folder_left : (head : LookHead) (round : LooseRound) (before : ℕ) (stream : Option Stream) (turns : ℕ) (next : Option Path)
       → slice_get bounds.setting.parts.folders round.next ≡ next

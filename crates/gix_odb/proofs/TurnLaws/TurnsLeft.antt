@@ -1,5 +1,5 @@
 -- How many turns a look-up has left, by its stage.
-use Rattle.std.proofs.Common.{◌≡◌, ℕ, ◌+◌, ◌-◌, ◌*◌, ◌≤◌, ◌<◌, length, Option, Ok, refl, arith}
+use Rattle.std.proofs.Common.{◌≡◌, ◌⊎◌, inl, inr, ℕ, ◌+◌, ◌-◌, ◌*◌, ◌≤◌, ◌<◌, length, Option, Ok, refl, arith}
 use Rattle.gix_odb_search.proofs.TryTurnLaws.{trier_turns}
 use Rattle.gix_odb_events.specs.declared.answer.Answer.{Answer}
 use Rattle.gix_odb_calls.specs.declared.call.Reply.{Reply}
@@ -7,6 +7,8 @@ use Rattle.gix_odb.specs.Laps.{number_by}
 use Rattle.gix_odb.specs.Stream.{Stream}
 use Rattle.gix_odb.specs.LookUpOrder.{Setting, result_at, seen}
 use Rattle.gix_odb.specs.declared.refresh.Refresh.TheVariants as fronts
+use Rattle.gix_odb.specs.RefreshMode.{by_mode}
+use Rattle.gix_odb.specs.declared.refresh_mode.RefreshMode.TheVariants.{Never}
 use Rattle.gix_odb.specs.declared.look_up.LookHead.{LookHead}
 use Rattle.gix_odb.specs.declared.look_up.LookStage.{LookStage}
 use Rattle.gix_odb.specs.declared.look_up.LookStage.TheVariants as stages
@@ -23,13 +25,14 @@ use Rattle.gix_odb.specs.Store.{listed_for}
 abbrev pub settling_turns : (slots folders : ℕ) → ℕ
 settling_turns slots folders = 4 * slots + folders + 3
 
--- a look-up is made in a setting, over so many slots, and no stream gives more entries than so many: a lap has room for a listing and what follows it
+-- a look-up is made in a setting, over so many slots, and no stream gives more entries than so many: a lap has room for a listing and what follows
+-- it, and for one turn more
 pub record Bounds : Type 0 where
   pub setting : Setting
   pub slots : ℕ
   pub entries : ℕ
   pub lap : ℕ
-  pub wide : folder_turns (listed_for setting.parts) entries + further (listed_for setting.parts) entries 0 + settling_turns slots (length setting.parts.folders) ≤ lap
+  pub wide : folder_turns (listed_for setting.parts) entries + further (listed_for setting.parts) entries 0 + settling_turns slots (length setting.parts.folders) + 1 ≤ lap
 
 module _ (bounds : Bounds) where
   abbrev pub folders : ℕ
@@ -50,15 +53,23 @@ module _ (bounds : Bounds) where
   abbrev pub HasFurther : LookHead → (number before room turns : ℕ) → Type 0
   HasFurther head number before room turns = IsFurther bounds.setting.most bounds.lap head number before room turns
 
+  -- after a list of the core come the turns of a lap, unless the handle never refreshes its list
+  abbrev pub onward : LookHead → ℕ
+  onward head = by_mode 0 bounds.lap head.mode
+
   -- Where a list is tried or the loose folders after it are asked, for which there are so many turns. After the snapshot come a read of the core's
   -- state and the core's list with its loose folders; after the core's list a lap; after a published list a read of the core's state.
   abbrev pub OfPart : LookHead → Part → (before room turns : ℕ) → Type 0
   OfPart head parts.Snapshot before room turns = HasFirst head before (room + (trying + 1)) turns
-  OfPart head (parts.List number loose) before room turns = HasFurther head number before (room + bounds.lap) turns
+  OfPart head (parts.List number loose) before room turns = HasFurther head number before (room + onward head) turns
   OfPart head (parts.Published number) before room turns = HasFurther head number before (room + 1) turns
 
+  -- The core's list is read for the first time, or by a handle that never refreshes its list once more after a listing that came too late.
+  abbrev pub ReadsFirst : LookHead → (before turns : ℕ) → Type 0
+  ReadsFirst head before turns = HasFirst head before (trying + 1) turns ⊎ ((head.mode ≡ Never) × HasFurther head before before bounds.lap turns)
+
   abbrev pub OfPurpose : LookHead → Purpose → (before turns : ℕ) → Type 0
-  OfPurpose head (purposes.First loose) before turns = HasFirst head before (trying + 1) turns
+  OfPurpose head (purposes.First loose) before turns = ReadsFirst head before turns
   OfPurpose head purposes.Again before turns = HasFurther head before before (bounds.lap + 1) turns
 
   -- A look-up that goes on has at most so many turns left. The last number of a list that it got is `before`, and the stream that it
@@ -85,7 +96,8 @@ module _ (bounds : Bounds) where
   OfPart-pos head (parts.Published number) before room turns has = omega (arith, has.enough)
 
   OfPurpose-pos : (head : LookHead) (purpose : Purpose) (before turns : ℕ) → OfPurpose head purpose before turns → 0 < turns
-  OfPurpose-pos head (purposes.First loose) before turns has = omega (arith, has.enough)
+  OfPurpose-pos head (purposes.First loose) before turns (inl has) = omega (arith, has.enough)
+  OfPurpose-pos head (purposes.First loose) before turns (inr has) = omega (arith, has.1.enough, bounds.wide)
   OfPurpose-pos head purposes.Again before turns has = omega (arith, has.enough)
 
   pub HasLeft-pos : (head : LookHead) (stage : LookStage) (before : ℕ) (stream : Option Stream) (turns : ℕ) → HasLeft head stage before stream turns

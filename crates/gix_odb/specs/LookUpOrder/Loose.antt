@@ -14,22 +14,25 @@ use Rattle.gix_odb.specs.declared.refresh.Refresh.TheVariants as fronts
 use Rattle.gix_odb_search.specs.declared.search.Notes.{Notes}
 use Rattle.odb_base.specs.Path.{Path}
 use Rattle.gix_odb.specs.LookUpOrder.Store.{Setting}
-use Rattle.gix_odb.specs.LookUpOrder.Listing.{listing_from}
+use Rattle.gix_odb.specs.LookUpOrder.Listing.{after_core_list}
+use Rattle.gix_odb.specs.LookUpOrder.Replies.{ended}
+use Rattle.gix_odb.specs.RefreshMode.{by_mode}
 
 -- the loose objects of the first folder are asked
 abbrev pub loose_from : Setting → LookHead → Part → Notes → LookStage
 loose_from setting head part notes =
     stages.Loose (record { next = 0; notes = notes; part = part }) (asking setting.parts.alloc_limit_bytes head.want head.id setting.parts.objects)
 
--- behind the loose folders: the core's list, a listing, or a look at whether the list that was tried is still the newest
-abbrev pub after_loose : Setting → Part → Notes → LookStage
-after_loose setting parts.Snapshot notes = stages.Refreshing fronts.Reading (purposes.First false) notes
-after_loose setting (parts.List list_no loose) notes = listing_from setting list_no notes
-after_loose setting (parts.Published list_no) notes = stages.Checking list_no notes
+-- after the loose folders: the core's list; a listing; or a look at whether the list that was tried is still the newest. A handle that never
+-- refreshes its list is at the end once a list of the core was tried.
+abbrev pub after_loose : Setting → LookHead → Part → Notes → LookStage
+after_loose setting head parts.Snapshot notes = stages.Refreshing fronts.Reading (purposes.First false) notes
+after_loose setting head (parts.List list_no loose) notes = after_core_list setting head list_no notes
+after_loose setting head (parts.Published list_no) notes = by_mode (ended head.want notes) (stages.Checking list_no notes) head.mode
 
--- the next folder is asked; behind the last one the look-up goes on
+-- the next folder is asked; after the last one the look-up goes on
 abbrev pub at_folder : Setting → LookHead → LooseRound → Option Path → LookStage
-at_folder setting head round None = after_loose setting round.part round.notes
+at_folder setting head round None = after_loose setting head round.part round.notes
 at_folder setting head round (Some folder) =
     stages.Loose (record round { next = round.next + 1 }) (asking setting.parts.alloc_limit_bytes head.want head.id folder)
 

@@ -1,5 +1,5 @@
 -- The list of the core is read, or brought up to date.
-use Rattle.std.specs.Prelude.{◌+◌, min, Bool, true, false, []}
+use Rattle.std.specs.Prelude.{ℕ, ◌+◌, min, Bool, true, false, []}
 use Rattle.gix_odb_events.specs.View.{last_state}
 use Rattle.gix_odb_events.specs.declared.view.View.{View}
 use Rattle.gix_odb.specs.declared.look_up.LookHead.{LookHead}
@@ -13,16 +13,22 @@ use Rattle.gix_odb_search.specs.declared.search.Notes.{Notes}
 use Rattle.gix_odb.specs.declared.refresh.Refresh.TheVariants as fronts
 use Rattle.gix_odb.specs.declared.refresh.RefreshStep.{RefreshStep}
 use Rattle.gix_odb.specs.declared.refresh.RefreshStep.TheVariants as steps
+use Rattle.gix_odb.specs.RefreshMode.{by_mode}
 use Rattle.gix_odb.specs.LookUpOrder.Store.{Setting}
 use Rattle.gix_odb.specs.LookUpOrder.Listing.{listing_from}
 use Rattle.gix_odb.specs.LookUpOrder.Replies.{load_refused}
 use Rattle.gix_odb.specs.LookUpOrder.Trying.{try_view}
 use Rattle.gix_odb.specs.LookUpOrder.Checking.{counted}
 
--- the core has a list that was read before: the first one is tried; after one that came too late the folders are listed again
+-- After a listing that came too late and a look at the core the folders are listed again. A handle that never refreshes its list looks at the core
+-- once more and tries its list: it listed the folders since it had no snapshot, so that the loose folders are still to be asked.
+abbrev pub again : Setting → LookHead → (list_no : ℕ) → Notes → LookStage
+again setting head list_no notes = by_mode (stages.Refreshing fronts.Reading (purposes.First true) notes) (listing_from setting list_no notes) head.mode
+
+-- the core has a list that was read before: the first one is tried
 abbrev pub by_read : Setting → LookHead → Purpose → View → Notes → LookStage
 by_read setting head (purposes.First loose) view notes = try_view setting head (parts.List view.list_no loose) view view.todo notes
-by_read setting head purposes.Again view notes = listing_from setting view.list_no notes
+by_read setting head purposes.Again view notes = again setting head view.list_no notes
 
 -- one more list is the call's own
 abbrev pub with_own : LookHead → LookHead

@@ -19,7 +19,7 @@ use Rattle.gix_odb_search.specs.declared.trier.Tried.{Tried}
 use Rattle.gix_odb_search.specs.declared.trier.Tried.TheVariants as tried
 use Rattle.gix_odb_search.specs.declared.trier.Trier.{Trier}
 use Rattle.gix_odb.specs.LookUpOrder.Store.{Setting}
-use Rattle.gix_odb.specs.LookUpOrder.Listing.{listing_from}
+use Rattle.gix_odb.specs.LookUpOrder.Listing.{after_core_list}
 use Rattle.gix_odb.specs.LookUpOrder.Loose.{loose_from}
 use Rattle.gix_odb.specs.LookUpOrder.Replies.{load_refused, find_error, reply_found}
 
@@ -27,11 +27,12 @@ use Rattle.gix_odb.specs.LookUpOrder.Replies.{load_refused, find_error, reply_fo
 abbrev pub goal_of : Setting → LookHead → Goal
 goal_of setting head = record { id = head.id; want = head.want; limit = setting.parts.alloc_limit_bytes }
 
--- after the indices of a list come the loose folders, but not after the core's list where the snapshot was tried before it; then comes a listing
+-- after the indices of a list come the loose folders, but not after the core's list where the snapshot was tried before it: then they were
+-- asked, and the look-up goes on as after them
 abbrev pub after_list : Setting → LookHead → Part → Notes → LookStage
 after_list setting head parts.Snapshot notes = loose_from setting head parts.Snapshot notes
 after_list setting head (parts.List list_no true) notes = loose_from setting head (parts.List list_no true) notes
-after_list setting head (parts.List list_no false) notes = listing_from setting list_no notes
+after_list setting head (parts.List list_no false) notes = after_core_list setting head list_no notes
 after_list setting head (parts.Published list_no) notes = loose_from setting head (parts.Published list_no) notes
 
 -- after a step of trying: the next one; what was found; the loose folders, or a listing, where nothing was; or why it ended

@@ -5,10 +5,12 @@ ghost use Rattle.gix_odb_events.specs.Asks.{IsAnswerTo};
 ghost use Rattle.gix_odb_events.specs.declared.answer.Ask.TheVariants as asks;
 ghost use Rattle.gix_odb_calls.specs.Verdict.{asking, folder_ask, folder_verdict};
 ghost use Rattle.gix_odb.specs.LookUpOrder as order;
+ghost use Rattle.gix_odb.specs.RefreshMode.{by_mode};
 
-use super::listing::listing_from;
+use super::listing::after_core_list;
+use super::replies::ended;
 use super::{LookHead, LookStage, LookUp, LooseRound, Part, Purpose, Setting, at};
-use crate::Refresh;
+use crate::{Refresh, RefreshMode};
 use gix_odb_calls::verdict::{FolderCall, Verdict};
 use gix_odb_events::Answer;
 use gix_odb_search::Notes;
@@ -129,7 +131,7 @@ fn at_folder(
 {
     let LooseRound { next, notes, part } = round;
     let Some(folder) = setting.parts.folders.as_slice().get(next) else {
-        return after_loose(alloc, setting, part, notes);
+        return after_loose(alloc, setting, head, part, notes);
     };
     match head.loose(alloc, folder, setting.parts.alloc_limit_bytes) {
         Ok(call) => {
@@ -155,14 +157,15 @@ impl LooseRound {
     }
 }
 
-/// What comes behind the loose folders.
+/// Returns the stage after the loose folders.
 fn after_loose(
     alloc: Global,
     setting: &Setting<'_>,
+    head: LookHead,
     part: Part,
     notes: Notes,
 ) -> Result<LookStage, NoMemory>
-    ensures after { IfOk result (λ stage. stage ≡ order.after_loose (setting_of setting.now) part notes) }
+    ensures after { IfOk result (λ stage. stage ≡ order.after_loose (setting_of setting.now) head part notes) }
 {
     match part {
         Part::Snapshot => Ok(LookStage::Refreshing {
@@ -170,7 +173,17 @@ fn after_loose(
             purpose: Purpose::First { loose: false },
             notes,
         }),
-        Part::List { list_no, .. } => listing_from(alloc, setting, list_no, notes),
-        Part::Published { list_no } => Ok(LookStage::Checking { list_no, notes }),
+        Part::List { list_no, .. } => after_core_list(alloc, setting, head, list_no, notes),
+        Part::Published { list_no } => Ok(after_own_list(head, list_no, notes)),
+    }
+}
+
+/// Returns the stage after the list that the look-up published or confirmed, and the loose folders.
+fn after_own_list(head: LookHead, list_no: u64, notes: Notes) -> LookStage
+    ensures after { result ≡ by_mode (order.ended head.want notes) (LookStage.Checking list_no notes) head.mode }
+{
+    match head.mode {
+        RefreshMode::Never => ended(head.want, &notes),
+        RefreshMode::AfterAllIndicesLoaded => LookStage::Checking { list_no, notes },
     }
 }

@@ -10,7 +10,7 @@ use super::listing::listing_from;
 use super::replies::load_refused;
 use super::trying::try_view;
 use super::{LookHead, LookStage, LookUp, Part, Purpose, Setting, at};
-use crate::{Refresh, RefreshStep};
+use crate::{Refresh, RefreshMode, RefreshStep};
 use gix_odb_events::{Answer, View};
 use gix_odb_search::Notes;
 use odb_base::NoMemory;
@@ -91,9 +91,29 @@ fn by_read(
             let part = Part::List { list_no, loose };
             try_view(alloc, setting, head, part, view, notes)?
         }
-        Purpose::Again => listing_from(alloc, setting, list_no, notes)?,
+        Purpose::Again => again(alloc, setting, head, list_no, notes)?,
     };
     Ok(at(head, stage))
+}
+
+/// Lists the folders again, or reads the core's list once more by a handle that never refreshes it.
+fn again(
+    alloc: Global,
+    setting: &Setting<'_>,
+    head: LookHead,
+    list_no: u64,
+    notes: Notes,
+) -> Result<LookStage, NoMemory>
+    ensures again { IfOk result (λ stage. stage ≡ order.again (setting_of setting.now) head list_no notes) }
+{
+    match head.mode {
+        RefreshMode::Never => Ok(LookStage::Refreshing {
+            refresh: Refresh::Reading,
+            purpose: Purpose::First { loose: true },
+            notes,
+        }),
+        RefreshMode::AfterAllIndicesLoaded => listing_from(alloc, setting, list_no, notes),
+    }
 }
 
 impl LookHead {

@@ -5,7 +5,7 @@ ghost use Rattle.gix_odb_search.specs.TryOrder as tries;
 ghost use Rattle.gix_odb.specs.LookUpOrder.{setting_of};
 ghost use Rattle.gix_odb.specs.LookUpOrder as order;
 
-use super::listing::listing_from;
+use super::listing::after_core_list;
 use super::loose::loose_from;
 use super::replies::{find_error, load_refused, reply_found};
 use super::{LookHead, LookStage, LookUp, Part, Setting, at};
@@ -124,7 +124,7 @@ fn after_list(
         Part::List {
             list_no,
             loose: false,
-        } => listing_from(alloc, setting, list_no, notes),
+        } => after_core_list(alloc, setting, head, list_no, notes),
         part => loose_from(alloc, setting, head, part, notes),
     }
 }

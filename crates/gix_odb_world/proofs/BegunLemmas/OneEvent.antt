@@ -1,5 +1,5 @@
 -- What one more event does to the steps from which a handle has its task, its store and its mode.
-use Rattle.std.proofs.Common.{◌≡◌, ℕ, ◌+◌, ◌≤◌, true, List, [], ◌∷◌, ◌++◌, length, Some, None, refl, sym, ◌∙◌, ap, subst, arith, inl, inr, ◌⊎◌, take}
+use Rattle.std.proofs.Common.{◌≡◌, ℕ, ◌+◌, ◌≤◌, ◌↔◌, true, List, [], ◌∷◌, ◌++◌, length, Some, None, refl, sym, ◌∙◌, ap, subst, arith, inl, inr, ◌⊎◌, take}
 use Rattle.std.specs.Prelude.{slice_get}
 use Rattle.std.proofs.lemmas.List.{length_push, take-append-le}
 use Rattle.std.proofs.Math.Seq.{take-append_seam}
@@ -12,10 +12,11 @@ use Rattle.gix_odb_calls.specs.declared.init.Options.{Options}
 use Rattle.gix_odb_calls.specs.declared.step.Step.{Step}
 use Rattle.gix_odb_calls.specs.declared.step.Step.TheVariants as steps
 use Rattle.gix_odb_calls.specs.declared.step.Outcome.TheVariants as outcomes
+use Rattle.gix_odb.specs.declared.refresh_mode.RefreshMode.TheVariants.{Never}
 use Rattle.gix_odb_history.specs.Event.{Event}
-use Rattle.gix_odb_world.specs.Status.{MakeCall, OpenStore, Running, Status, Store, Task, Free, Resting, Working, ignoring_from}
-use Rattle.gix_odb_world.specs.Status.{started, store_at, Modes, modes_at_opening, now_ignoring}
-use Rattle.gix_odb_world.specs.Begun.{AppliedSince, BegunAs, BegunBy, FromClone, FromOpen, HoldsStore, IsIgnoreOf, IsOpenOf, IsTaskOf, NoneSince, OpenedBy}
+use Rattle.gix_odb_world.specs.Status.{MakeCall, OpenStore, Running, Status, Store, Task, Free, Resting, Working, frozen_from, ignoring_from}
+use Rattle.gix_odb_world.specs.Status.{started, store_at, Modes, modes_at_opening, now_frozen, now_ignoring}
+use Rattle.gix_odb_world.specs.Begun.{AppliedSince, BegunAs, BegunBy, FromClone, FromOpen, HoldsStore, IsIgnoreOf, IsNeverOf, IsOpenOf, IsTaskOf, NoneSince, OpenedBy}
 use Rattle.gix_odb_world.specs.Valid.{phase_of, why_not_idle, why_not_start}
 use Rattle.gix_odb_world.proofs.HistoryLemmas.{slice_get-kept, slice_get-last, slice_get-push}
 
@@ -66,6 +67,20 @@ open_is_task handle (steps.Clone other from) is = is
 open_is_task handle step is = absurd is
 
 -- ---- one more event
+
+-- a step that sets a mode of a handle
+abbrev pub IsModeOf : (handle : ℕ) → Step → Type 0
+IsModeOf handle (steps.Never other) = other ≡ handle
+IsModeOf handle (steps.Ignore other) = other ≡ handle
+IsModeOf handle step = ⊥
+
+never_is_mode : (handle : ℕ) (step : Step) → IsNeverOf handle step → IsModeOf handle step
+never_is_mode handle (steps.Never other) is = is
+never_is_mode handle step is = absurd is
+
+ignore_is_mode : (handle : ℕ) (step : Step) → IsIgnoreOf handle step → IsModeOf handle step
+ignore_is_mode handle (steps.Ignore other) is = is
+ignore_is_mode handle step is = absurd is
 
 module _ (events : List Event) (e : Event) where
   abbrev whole : List Event
@@ -157,7 +172,23 @@ module _ (events : List Event) (e : Event) where
     holds_opened store number o =
         FromOpen o
         (subst (NoneSince (IsOpenOf handle) whole) (sym number) (none_after (IsOpenOf handle)))
+        (λ is. absurd (cc is), λ a. absurd (no_applied_after (IsNeverOf handle) (subst (AppliedSince (IsNeverOf handle) whole) number a)))
         (λ is. absurd (cc is), λ a. absurd (no_applied_after (IsIgnoreOf handle) (subst (AppliedSince (IsIgnoreOf handle) whole) number a)))
+
+    -- a mode that the steps since an event set is set by them still
+    since_kept : (P : Step → Type 0) (A : Type 0) (number : ℕ) → Apart P → A ↔ AppliedSince P events number → A ↔ AppliedSince P whole number
+    since_kept P A number apart both = (λ is. applied_kept P number (both.0 is), λ a. both.1 (applied_before P number apart a))
+
+    either_kept : (P : Step → Type 0) (A B : Type 0) (number : ℕ) → Apart P → A ↔ (B ⊎ AppliedSince P events number) → A ↔ (B ⊎ AppliedSince P whole number)
+    either_kept P A B number apart both = (λ is. wider (both.0 is), λ either. both.1 (narrower either))
+      where
+        wider : B ⊎ AppliedSince P events number → B ⊎ AppliedSince P whole number
+        wider (inl was) = inl was
+        wider (inr a) = inr (applied_kept P number a)
+
+        narrower : B ⊎ AppliedSince P whole number → B ⊎ AppliedSince P events number
+        narrower (inl was) = inl was
+        narrower (inr a) = inr (applied_before P number apart a)
 
     -- what lay before a place still lies before it
     front_kept : (place : ℕ) (event : Event) → slice_get events place ≡ Some event → take place events ≡ take place whole
@@ -165,48 +196,72 @@ module _ (events : List Event) (e : Event) where
         let within = slice_get_within events place event there in
         sym (take-append-le place events (e ∷ []) (omega (arith, within)))
 
-    holds_kept : (store : Store) (modes : Modes) → Apart (IsOpenOf handle) → Apart (IsIgnoreOf handle) → HoldsStore events handle store modes
+    -- the step sets none of the handle's modes
+    no_never : Apart (IsModeOf handle) → Apart (IsNeverOf handle)
+    no_never no_mode applied is = no_mode applied (never_is_mode handle e.step is)
+
+    no_ignore : Apart (IsModeOf handle) → Apart (IsIgnoreOf handle)
+    no_ignore no_mode applied is = no_mode applied (ignore_is_mode handle e.step is)
+
+    holds_kept : (store : Store) (modes : Modes) → Apart (IsOpenOf handle) → Apart (IsModeOf handle) → HoldsStore events handle store modes
         → HoldsStore whole handle store modes
-    holds_kept store modes no_open no_ignore (FromOpen step latest ignoring) =
+    holds_kept store modes no_open no_mode (FromOpen step latest frozen ignoring) =
         FromOpen (opened_kept handle store.opened store step) (none_push (IsOpenOf handle) store.opened no_open latest)
-        (λ is. applied_kept (IsIgnoreOf handle) store.opened (ignoring.0 is), λ a. ignoring.1 (applied_before (IsIgnoreOf handle) store.opened no_ignore a))
-    holds_kept store modes no_open no_ignore (FromClone from place event parent there applied clones held latest ignoring) =
+        (since_kept (IsNeverOf handle) (modes.refresh ≡ Never) store.opened (no_never no_mode) frozen)
+        (since_kept (IsIgnoreOf handle) (modes.ignoring ≡ true) store.opened (no_ignore no_mode) ignoring)
+    holds_kept store modes no_open no_mode (FromClone from place event parent there applied clones held latest frozen ignoring) =
         FromClone from place event parent (slice_get-kept events e place event there) applied clones
         (subst (λ front. HoldsStore front from store parent) (front_kept place event there) held)
         (none_push (IsOpenOf handle) (place + 1) no_open latest)
-        (λ is. wider (ignoring.0 is), λ either. ignoring.1 (narrower either))
-      where
-        wider : (parent.ignoring ≡ true) ⊎ AppliedSince (IsIgnoreOf handle) events (place + 1) → (parent.ignoring ≡ true) ⊎ AppliedSince (IsIgnoreOf handle) whole (place + 1)
-        wider (inl was) = inl was
-        wider (inr a) = inr (applied_kept (IsIgnoreOf handle) (place + 1) a)
-
-        narrower : (parent.ignoring ≡ true) ⊎ AppliedSince (IsIgnoreOf handle) whole (place + 1) → (parent.ignoring ≡ true) ⊎ AppliedSince (IsIgnoreOf handle) events (place + 1)
-        narrower (inl was) = inl was
-        narrower (inr a) = inr (applied_before (IsIgnoreOf handle) (place + 1) no_ignore a)
+        (either_kept (IsNeverOf handle) (modes.refresh ≡ Never) (parent.refresh ≡ Never) (place + 1) (no_never no_mode) frozen)
+        (either_kept (IsIgnoreOf handle) (modes.ignoring ≡ true) (parent.ignoring ≡ true) (place + 1) (no_ignore no_mode) ignoring)
 
     holds_ignoring : (store : Store) (modes : Modes) → e.step ≡ steps.Ignore handle → e.outcome ≡ outcomes.Applied
         → HoldsStore events handle store modes → HoldsStore whole handle store (now_ignoring modes)
-    holds_ignoring store modes step applied (FromOpen o latest ignoring) =
+    holds_ignoring store modes step applied (FromOpen o latest frozen ignoring) =
         let within = slice_get_within events o.place o.event o.there in
         let number = o.number in
         FromOpen (opened_kept handle store.opened store o) (none_push (IsOpenOf handle) store.opened (λ _ is. subst (IsOpenOf handle) step is) latest)
+        (since_kept (IsNeverOf handle) (modes.refresh ≡ Never) store.opened (λ _ is. subst (IsNeverOf handle) step is) frozen)
         (λ _. applied_now (IsIgnoreOf handle) store.opened (omega (arith, within, number)) applied (subst (IsIgnoreOf handle) (sym step) refl), λ _. refl)
-    holds_ignoring store modes step applied (FromClone from place event parent there own clones held latest ignoring) =
+    holds_ignoring store modes step applied (FromClone from place event parent there own clones held latest frozen ignoring) =
         let within = slice_get_within events place event there in
         FromClone from place event parent (slice_get-kept events e place event there) own clones
         (subst (λ front. HoldsStore front from store parent) (front_kept place event there) held)
         (none_push (IsOpenOf handle) (place + 1) (λ _ is. subst (IsOpenOf handle) step is) latest)
+        (either_kept (IsNeverOf handle) (modes.refresh ≡ Never) (parent.refresh ≡ Never) (place + 1) (λ _ is. subst (IsNeverOf handle) step is) frozen)
         (λ _. inr (applied_now (IsIgnoreOf handle) (place + 1) (omega (arith, within)) applied (subst (IsIgnoreOf handle) (sym step) refl)), λ _. refl)
 
+    holds_frozen : (store : Store) (modes : Modes) → e.step ≡ steps.Never handle → e.outcome ≡ outcomes.Applied
+        → HoldsStore events handle store modes → HoldsStore whole handle store (now_frozen modes)
+    holds_frozen store modes step applied (FromOpen o latest frozen ignoring) =
+        let within = slice_get_within events o.place o.event o.there in
+        let number = o.number in
+        FromOpen (opened_kept handle store.opened store o) (none_push (IsOpenOf handle) store.opened (λ _ is. subst (IsOpenOf handle) step is) latest)
+        (λ _. applied_now (IsNeverOf handle) store.opened (omega (arith, within, number)) applied (subst (IsNeverOf handle) (sym step) refl), λ _. refl)
+        (since_kept (IsIgnoreOf handle) (modes.ignoring ≡ true) store.opened (λ _ is. subst (IsIgnoreOf handle) step is) ignoring)
+    holds_frozen store modes step applied (FromClone from place event parent there own clones held latest frozen ignoring) =
+        let within = slice_get_within events place event there in
+        FromClone from place event parent (slice_get-kept events e place event there) own clones
+        (subst (λ front. HoldsStore front from store parent) (front_kept place event there) held)
+        (none_push (IsOpenOf handle) (place + 1) (λ _ is. subst (IsOpenOf handle) step is) latest)
+        (λ _. inr (applied_now (IsNeverOf handle) (place + 1) (omega (arith, within)) applied (subst (IsNeverOf handle) (sym step) refl)), λ _. refl)
+        (either_kept (IsIgnoreOf handle) (modes.ignoring ≡ true) (parent.ignoring ≡ true) (place + 1) (λ _ is. subst (IsIgnoreOf handle) step is) ignoring)
+
     -- the last event is a clone of a handle that had the store
-    pub holds_cloned : (from : ℕ) (store : Store) (parent modes : Modes) → modes.ignoring ≡ parent.ignoring → e.step ≡ steps.Clone handle from → e.outcome ≡ outcomes.Applied
+    pub holds_cloned : (from : ℕ) (store : Store) (parent modes : Modes) → modes.refresh ≡ parent.refresh → modes.ignoring ≡ parent.ignoring → e.step ≡ steps.Clone handle from → e.outcome ≡ outcomes.Applied
         → HoldsStore events from store parent → HoldsStore whole handle store modes
-    holds_cloned from store parent modes same step applied held =
+    holds_cloned from store parent modes same_refresh same step applied held =
         FromClone from (length events) e parent (slice_get-last events e) applied step
         (subst (λ front. HoldsStore front from store parent) (sym (take-append_seam events (e ∷ []))) held)
         (none_after (IsOpenOf handle))
+        (λ is. inl (sym same_refresh ∙ is), λ either. froze either)
         (λ is. inl (sym same ∙ is), λ either. ignored either)
       where
+        froze : (parent.refresh ≡ Never) ⊎ AppliedSince (IsNeverOf handle) whole (length events + 1) → modes.refresh ≡ Never
+        froze (inl was) = same_refresh ∙ was
+        froze (inr a) = absurd (no_applied_after (IsNeverOf handle) a)
+
         ignored : (parent.ignoring ≡ true) ⊎ AppliedSince (IsIgnoreOf handle) whole (length events + 1) → modes.ignoring ≡ true
         ignored (inl was) = same ∙ was
         ignored (inr a) = absurd (no_applied_after (IsIgnoreOf handle) a)
@@ -217,13 +272,19 @@ module _ (events : List Event) (e : Event) where
     task_kept running apart l =
         record { begins = begun_kept handle running.begun running.store running.task l.begins; latest = none_push (IsTaskOf handle) running.begun apart l.latest }
 
-    pub stems_kept : (status : Status) → Apart (IsTaskOf handle) → Apart (IsIgnoreOf handle) → Stems events handle status → Stems whole handle status
-    stems_kept Free no_task no_ignore stems = tt
-    stems_kept (Resting store modes) no_task no_ignore stems = holds_kept store modes (λ applied is. no_task applied (open_is_task handle e.step is)) no_ignore stems
-    stems_kept (Working running) no_task no_ignore stems =
-        (holds_kept running.store running.modes (λ applied is. no_task applied (open_is_task handle e.step is)) no_ignore stems.0, task_kept running no_task stems.1)
+    pub stems_kept : (status : Status) → Apart (IsTaskOf handle) → Apart (IsModeOf handle) → Stems events handle status → Stems whole handle status
+    stems_kept Free no_task no_mode stems = tt
+    stems_kept (Resting store modes) no_task no_mode stems = holds_kept store modes (λ applied is. no_task applied (open_is_task handle e.step is)) no_mode stems
+    stems_kept (Working running) no_task no_mode stems =
+        (holds_kept running.store running.modes (λ applied is. no_task applied (open_is_task handle e.step is)) no_mode stems.0, task_kept running no_task stems.1)
 
     -- ---- what a step does to a handle
+
+    pub stems_frozen : (status : Status) → None ≡ why_not_idle (phase_of status) → e.step ≡ steps.Never handle → e.outcome ≡ outcomes.Applied
+        → Stems events handle status → Stems whole handle (frozen_from status)
+    stems_frozen Free idle step applied stems = tt
+    stems_frozen (Resting store modes) idle step applied stems = holds_frozen store modes step applied stems
+    stems_frozen (Working running) idle step applied stems = absurd (cc idle)
 
     pub stems_ignoring : (status : Status) → None ≡ why_not_idle (phase_of status) → e.step ≡ steps.Ignore handle → e.outcome ≡ outcomes.Applied
         → Stems events handle status → Stems whole handle (ignoring_from status)
@@ -235,7 +296,7 @@ module _ (events : List Event) (e : Event) where
         → e.outcome ≡ outcomes.Applied → Stems events handle status → Stems whole handle (started (length events + 1) call status)
     stems_started call Free idle step applied stems = tt
     stems_started call (Resting store modes) idle step applied stems = (
-      holds_kept store modes (λ _ is. subst (IsOpenOf handle) step is) (λ _ is. subst (IsIgnoreOf handle) step is) stems,
+      holds_kept store modes (λ _ is. subst (IsOpenOf handle) step is) (λ _ is. subst (IsModeOf handle) step is) stems,
       record { begins = record { place = length events; number = refl; event = e; there = slice_get-last events e; applied = applied; starts = step }; latest = none_after (IsTaskOf handle) },
     )
     stems_started call (Working running) idle step applied stems = absurd (cc idle)

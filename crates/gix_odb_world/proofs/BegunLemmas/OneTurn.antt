@@ -24,23 +24,30 @@ ignoring_after (OfDisk ask answer) modes = refl
 ignoring_after (OfCore number seat event answer) modes = refl
 ignoring_after (OfNewCore slots folders number seat answer) modes = refl
 
-holds_alike : (events : List Event) (handle : ℕ) (store : Store) (modes other : Modes) → other.ignoring ≡ modes.ignoring → HoldsStore events handle store modes
+refresh_after : (asked : Asked) (modes : Modes) → (modes_after asked modes).refresh ≡ modes.refresh
+refresh_after OfNothing modes = refl
+refresh_after (OfDisk ask answer) modes = refl
+refresh_after (OfCore number seat event answer) modes = refl
+refresh_after (OfNewCore slots folders number seat answer) modes = refl
+
+holds_alike : (events : List Event) (handle : ℕ) (store : Store) (modes other : Modes) → other.refresh ≡ modes.refresh → other.ignoring ≡ modes.ignoring → HoldsStore events handle store modes
     → HoldsStore events handle store other
-holds_alike events handle store modes other same (FromOpen step latest ignoring) =
-    FromOpen step latest (λ is. ignoring.0 (sym same ∙ is), λ a. same ∙ ignoring.1 a)
-holds_alike events handle store modes other same (FromClone from place event parent there applied clones held latest ignoring) =
-    FromClone from place event parent there applied clones held latest (λ is. ignoring.0 (sym same ∙ is), λ a. same ∙ ignoring.1 a)
+holds_alike events handle store modes other same_refresh same (FromOpen step latest frozen ignoring) =
+    FromOpen step latest (λ is. frozen.0 (sym same_refresh ∙ is), λ a. same_refresh ∙ frozen.1 a) (λ is. ignoring.0 (sym same ∙ is), λ a. same ∙ ignoring.1 a)
+holds_alike events handle store modes other same_refresh same (FromClone from place event parent there applied clones held latest frozen ignoring) =
+    FromClone from place event parent there applied clones held latest (λ is. frozen.0 (sym same_refresh ∙ is), λ a. same_refresh ∙ frozen.1 a)
+    (λ is. ignoring.0 (sym same ∙ is), λ a. same ∙ ignoring.1 a)
 
 holds_after : (events : List Event) (handle : ℕ) (store : Store) (modes : Modes) (asked : Asked) → HoldsStore events handle store modes
     → HoldsStore events handle store (modes_after asked modes)
-holds_after events handle store modes asked = holds_alike events handle store modes (modes_after asked modes) (ignoring_after asked modes)
+holds_after events handle store modes asked = holds_alike events handle store modes (modes_after asked modes) (refresh_after asked modes) (ignoring_after asked modes)
 
 -- a clone has the store of the handle that it is one of
 pub stems_cloned : (events : List Event) (e : Event) (handle from : ℕ) (asked : Asked) (parent : Status) → e.step ≡ steps.Clone handle from → e.outcome ≡ outcomes.Applied
     → Stems events from parent → Stems (events ++ e ∷ []) handle (cloned asked parent)
 stems_cloned events e handle from asked Free step applied stems = tt
 stems_cloned events e handle from asked (Resting store modes) step applied stems =
-    holds_cloned events e handle from store modes (modes_after asked modes) (ignoring_after asked modes) step applied stems
+    holds_cloned events e handle from store modes (modes_after asked modes) (refresh_after asked modes) (ignoring_after asked modes) step applied stems
 stems_cloned events e handle from asked (Working running) step applied stems = tt
 
 -- a turn's reply frees its handle or leaves it at rest, and what is left of its work has the same task

@@ -18,7 +18,7 @@ use Rattle.gix_odb_calls.specs.declared.step.Outcome.TheVariants as outcomes
 use Rattle.gix_odb_world.specs.Work.{Work}
 use Rattle.gix_odb_history.specs.Event.{Asked, Event, answered}
 use Rattle.gix_odb_world.specs.Status.{MakeCall, OpenStore, Running, Status, Store, Task, Free, Resting, Working, Modes, modes_at_opening}
-use Rattle.gix_odb_world.specs.Status.{cloned, come_to, gone_on, ignoring_from, modes_after}
+use Rattle.gix_odb_world.specs.Status.{cloned, come_to, frozen_from, gone_on, ignoring_from, modes_after}
 use Rattle.gix_odb_world.specs.Status.{opening_at, refuses_opening, replied, running_from, started, status_after, status_of, store_at, turned, with_status}
 use Rattle.gix_odb_world.specs.Begun.{is_turn_of, turns_since}
 use Rattle.gix_odb_world.specs.Machines.{fed_in}
@@ -84,6 +84,11 @@ module _ (past : List Event) (e : Event) where
   counts_rest handle store modes false = tt
 
   -- ---- what a step does to its handle
+
+  counts_frozen : (handle : ℕ) (status : Status) → is_turn_of handle e ≡ false → Counts past handle status → Counts whole handle (frozen_from status)
+  counts_frozen handle Free other counts = tt
+  counts_frozen handle (Resting store modes) other counts = tt
+  counts_frozen handle (Working running) other counts = counts_kept handle (Working running) other counts
 
   counts_ignoring : (handle : ℕ) (status : Status) → is_turn_of handle e ≡ false → Counts past handle status → Counts whole handle (ignoring_from status)
   counts_ignoring handle Free other counts = tt
@@ -154,6 +159,8 @@ module _ (first : Volume) (past : List Event) (e : Event) (law : Law first past 
   counts_applied (steps.Clone number from) is no_turn handle =
       counts_set number (cloned e.asked (table from)) (counts_cloned past e number e.asked (table from)) (λ h _. by_step h _ is refl) handle
   counts_applied (steps.Close number) is no_turn handle = counts_set number Free tt (λ h _. by_step h _ is refl) handle
+  counts_applied (steps.Never number) is no_turn handle =
+      counts_set number (frozen_from (table number)) (counts_frozen past e number (table number) (by_step number _ is refl) (before number)) (λ h _. by_step h _ is refl) handle
   counts_applied (steps.Ignore number) is no_turn handle =
       counts_set number (ignoring_from (table number)) (counts_ignoring past e number (table number) (by_step number _ is refl) (before number)) (λ h _. by_step h _ is refl) handle
   counts_applied (steps.Start number call) is no_turn handle =

@@ -51,7 +51,7 @@ module _ (Shown : Path → ℕ → List ℕ → Type 0) (setting : Setting) (has
     shape = replay opening entries
 
     -- what it shows of a multi-pack index is what each of its rows has
-    multi_row_is_shown : (number : ℕ) (row : ListingRow) (bytes : List ℕ) → row.multi ≡ Some bytes → IsRowHanded Shown setting hash row
+    pub multi_row_is_shown : (number : ℕ) (row : ListingRow) (bytes : List ℕ) → row.multi ≡ Some bytes → IsRowHanded Shown setting hash row
         → (place : ℕ) → Contains shape.list place → holds row (slot_at shape.slots place) ≡ true → ShowsContent (view_of shape number) row bytes
     multi_row_is_shown number row bytes is own place listed held =
         let filled = filled_from_holds row (slot_at shape.slots place) held in

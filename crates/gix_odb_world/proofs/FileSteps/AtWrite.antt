@@ -15,8 +15,8 @@ use Rattle.gix_odb_history.specs.Event.{Asked, Event, answered}
 use Rattle.gix_odb_events.specs.declared.answer.Answer.{Answer}
 use Rattle.gix_odb_world.specs.Machines.{fed_in, write_in}
 use Rattle.gix_odb_world.specs.Running.{Knows, Runs}
-use Rattle.gix_odb_world.specs.Status.{IsAtWrite, MakeCall, Running, Store, Status, Free, Resting, Working, after_turn_of, applied, come_to, gone_on, ignoring_from, modes_after, cloned}
-use Rattle.gix_odb_world.specs.Status.{opening_at, refuses_opening, replied, running_from, started, status_after, turned, with_status, Modes, now_ignoring}
+use Rattle.gix_odb_world.specs.Status.{IsAtWrite, MakeCall, Running, Store, Status, Free, Resting, Working, after_turn_of, applied, come_to, frozen_from, gone_on, ignoring_from, modes_after, cloned}
+use Rattle.gix_odb_world.specs.Status.{opening_at, refuses_opening, replied, running_from, started, status_after, turned, with_status, Modes, now_frozen, now_ignoring}
 use Rattle.gix_odb_world.proofs.MachineLaws.{HasNoFile}
 use Rattle.gix_odb_world.proofs.WorkLaws.{wrote_before}
 
@@ -86,6 +86,11 @@ module _ (store : Store) (begun : ℕ) where
   turned_before first events handle asked (Working running) runs a =
       come_before first events handle running runs.1 asked (answered asked) (fed_in running.store running.work (answered asked)) refl a
 
+  frozen_before : (status : Status) → Before (frozen_from status) → Before status
+  frozen_before Free a = a
+  frozen_before (Resting own modes) a = absurd (no_write_resting own (now_frozen modes) a)
+  frozen_before (Working running) a = a
+
   ignoring_before : (status : Status) → Before (ignoring_from status) → Before status
   ignoring_before Free a = a
   ignoring_before (Resting own modes) a = absurd (no_write_resting own (now_ignoring modes) a)
@@ -122,6 +127,7 @@ module _ (store : Store) (begun : ℕ) where
     applied_before number asked (steps.Open h path folders hash replacements options) soon = set_before h _ (λ a. opened_before number _ (table h) soon a.at)
     applied_before number asked (steps.Clone h from) soon = set_before h _ (λ b. absurd (cloned_before asked (table from) b.at))
     applied_before number asked (steps.Close h) soon = set_before h _ (λ b. absurd (no_write_free b.at))
+    applied_before number asked (steps.Never h) soon = set_before h _ (λ a. frozen_before (table h) a.at)
     applied_before number asked (steps.Ignore h) soon = set_before h _ (λ a. ignoring_before (table h) a.at)
     applied_before number asked (steps.Start h call) soon = set_before h _ (λ a. started_before number call (table h) soon a.at)
     applied_before number asked step soon = λ a. a.at

@@ -74,7 +74,7 @@ module _ (first : Volume) (events : List Event) (e : Event) (handle : ℕ) (stor
     nothing_told : told_since begun_whole handle number ≡ []
     nothing_told = ap (told_since begun_whole handle) count ∙ told_first begun_whole handle
 
-    begins : (look : LookUp) → looks.started (setting_in store) (view_in_modes modes) query.want (sought store.parts modes.ignoring query) ≡ look
+    begins : (look : LookUp) → looks.started (setting_in store) modes.refresh (view_in_modes modes) query.want (sought store.parts modes.ignoring query) ≡ look
         → IsLooking first begun_whole handle (running_from number (MakeCall (call_of query)) store modes) look
     begins look is = record {
       query = query;
@@ -83,7 +83,7 @@ module _ (first : Volume) (events : List Event) (e : Event) (handle : ℕ) (stor
       fits = record { distinct = start.distinct; hashed = sought_of store modes query start.hashed start.replaced };
       is =
           sym is
-          ∙ (ap (λ v. looks.started (setting_in store) v query.want (sought store.parts modes.ignoring query)) seen
+          ∙ (ap (λ v. looks.started (setting_in store) modes.refresh v query.want (sought store.parts modes.ignoring query)) seen
           ∙ ap (behind (setting_in store) (look_begun begun_whole handle store modes number query)) (sym nothing_told));
       asked = subst (AreAsked (setting_in store) (look_begun begun_whole handle store modes number query)) (sym nothing_told) tt;
       turns = ap length (sym nothing_told);
@@ -96,9 +96,9 @@ module _ (first : Volume) (events : List Event) (e : Event) (handle : ℕ) (stor
       → begun_with store modes (MakeCall (call_of query)) ≡ Calling (Looking look)
       → IsLooking first begun_whole handle (running_from number (MakeCall (call_of query)) store modes) look
   begins_call query look start is =
-      let same : Calling (Looking (looks.started (setting_in store) (view_in_modes modes) query.want (sought store.parts modes.ignoring query))) ≡ Calling (Looking look) =
+      let same : Calling (Looking (looks.started (setting_in store) modes.refresh (view_in_modes modes) query.want (sought store.parts modes.ignoring query))) ≡ Calling (Looking look) =
       ap (λ (s : CallStage). Calling s)
-      (sym (by_call-call_of (λ (q : Query). calls.looking (setting_in store) (view_in_modes modes) (sought store.parts modes.ignoring) q)
+      (sym (by_call-call_of (λ (q : Query). calls.looking (setting_in store) modes.refresh (view_in_modes modes) (sought store.parts modes.ignoring) q)
       (λ kind size bytes known. fronted (refreshes.started (view_in_modes modes)) (writing store.parts.objects store.parts.object_hash kind size bytes known)) query)) ∙ is in
       begins query start look (cc same)
 

@@ -96,7 +96,7 @@ module _ (first : Volume) (events : List Event) (handle : ℕ) (running : Runnin
   pub quiet : (ask : DiskAsk) → ask_of look ≡ Some (parts.Disk ask) → change_by (disk_after first events) ask ≡ None
   quiet ask is =
       change_by-quiet (disk_after first events) ask
-      (look_ups_change_no_file setting view query.want id exchanges knows.asked ask (asked_now (Some (parts.Disk ask)) is) (tree_of (disk_after first events).state))
+      (look_ups_change_no_file setting running.modes.refresh view query.want id exchanges knows.asked ask (asked_now (Some (parts.Disk ask)) is) (tree_of (disk_after first events).state))
 
   -- the call of the disk comes in the order of the task
   in_order : (ask : DiskAsk) → ask_of now_at ≡ Some (parts.Disk ask)
@@ -122,12 +122,12 @@ module _ (first : Volume) (events : List Event) (handle : ℕ) (running : Runnin
 
   pub ends : ask_of look ≡ None → (reply : Reply) × (result_of look ≡ Ok reply)
   ends none =
-      let done = (a_done_look_up_asks_nothing setting view query.want id exchanges).0 (asked_now None none) in
+      let done = (a_done_look_up_asks_nothing setting running.modes.refresh view query.want id exchanges).0 (asked_now None none) in
       (done.0, ap result_of knows.is ∙ done.1)
 
   pub happens : (event : CoreEvent) → ask_of look ≡ Some (parts.Core event) → (shape : Shape) (seat : ℕ) → CanHappen shape seat event
   happens event is shape seat =
-      what_is_handed_can_happen setting knows.fits.distinct view query.want id exchanges knows.asked event
+      what_is_handed_can_happen setting knows.fits.distinct running.modes.refresh view query.want id exchanges knows.asked event
       (asked_now (Some (parts.Core event)) is) shape seat
 
   -- ---- how its turn ends
@@ -158,7 +158,7 @@ module _ (first : Volume) (events : List Event) (handle : ℕ) (running : Runnin
 
     -- it begins as it did
     begins_same : look_begun events handle store running.modes running.begun query ≡ begun_now
-    begins_same = ap (λ v. looks.started setting v query.want id) (sym (view_kept events e handle running.begun knows.since running.modes.core))
+    begins_same = ap (λ v. looks.started setting running.modes.refresh v query.want id) (sym (view_kept events e handle running.begun knows.since running.modes.core))
 
     module _ (told_now_is : List Exchange) (told_is : told_since whole handle running.begun ≡ told_now_is)
         (well : IsToldWell first whole handle store running.modes running.begun) (refused : AreRefused whole handle running.modes.core running.begun)
@@ -232,6 +232,8 @@ module _ (first : Volume) (events : List Event) (handle : ℕ) (running : Runnin
           within = well.within;
           given = well.given;
           failures = well.failures;
+          met = well.met;
+          listed = well.listed;
           fair = well.fair;
         };
         refused = refused;
@@ -244,7 +246,7 @@ module _ (first : Volume) (events : List Event) (handle : ℕ) (running : Runnin
           let long = longer in
           let more = length_push events e in
           let few =
-          a_look_up_ends_in_time setting (view_then whole handle running.modes.core running.begun) query.want id (told_since whole handle running.begun) running.modes.slots entries well.few
+          a_look_up_ends_in_time setting running.modes.refresh (view_then whole handle running.modes.core running.begun) query.want id (told_since whole handle running.begun) running.modes.slots entries well.few
           (subst (λ l. AreAsked setting l (told_since whole handle running.begun)) begins_same
           (subst (AreAsked setting (look_begun events handle store running.modes running.begun query)) (sym told_is) all_asked))
           well.numbered

@@ -202,11 +202,11 @@ module _ (first : Volume) (events : List Event) (handle : ℕ) (running : Runnin
       goes : (own : OpenStage) → next ≡ own → LooksNow own → MachineComes first events e handle running opening IsOpening (OfDisk ask answer) (openings.result_of own)
       goes opens.Looking same looks = absurd looks
       goes (opens.Listing lister percent minimum) same looks = (
-        record { task = knows.task; since = now_is; is = sym same ∙ stands; asked = all_asked; turns = sym longer; well = record { suited = well.suited; answered = well.answered; within = well.within }; given = record { given = gives.given; of_tree = gives.of_tree }; seen = looks },
+        record { task = knows.task; since = now_is; is = sym same ∙ stands; asked = all_asked; turns = sym longer; well = record { suited = well.suited; answered = well.answered; within = well.within; met = well.met }; given = record { given = gives.given; of_tree = gives.of_tree }; seen = looks },
         in_time,
       )
       goes (opens.Registering number) same looks = (
-        record { task = knows.task; since = now_is; is = sym same ∙ stands; asked = all_asked; turns = sym longer; well = record { suited = well.suited; answered = well.answered; within = well.within }; given = record { given = gives.given; of_tree = gives.of_tree }; seen = looks },
+        record { task = knows.task; since = now_is; is = sym same ∙ stands; asked = all_asked; turns = sym longer; well = record { suited = well.suited; answered = well.answered; within = well.within; met = well.met }; given = record { given = gives.given; of_tree = gives.of_tree }; seen = looks },
         in_time,
       )
       goes (opens.Done (replies.Refused (call_errors.Open error))) same looks = keeps (replies.Refused (call_errors.Open error)) (refused error same looks)

@@ -2,6 +2,7 @@
 use Rattle.std.proofs.Common.{◌≡◌, ◌⊎◌, inl, inr, ℕ, ◌+◌, ◌<◌, ◌≤◌, List, [], ◌∷◌, ◌++◌, length, Option, None, Ok, sym, ap, ◌∙◌, subst, arith}
 use Rattle.std.proofs.lemmas.Bool.{cases_lt}
 use Rattle.std.proofs.lemmas.List.{length_push}
+use Rattle.std.proofs.Math.Seq.{take-length}
 use Rattle.odb_base.specs.Path.{Path}
 use Rattle.odb_disk.specs.MemDisk.{Volume}
 use Rattle.odb_disk.specs.Tree.{Tree, tree_of}
@@ -32,6 +33,16 @@ shown_index_is_sound trees store begun now id place still early since by_index b
     record { moment = now; from = omega (arith, early, since); to = omega arith; was = lies.shows_index } in
     let same : lies.index ≡ bytes = one lies.index bytes own was in
     subst (λ bs. Gives store.parts.object_hash bs id place.offset) same lies.gives
+
+-- what lay still in a pack from a moment on did so from a later one on
+pub still_later : (trees : ℕ → Tree) (store : Store) (early late now : ℕ) (id : ObjectId) (place : PackedPlace) → early ≤ late → IsPackedStill trees store early now id place
+    → IsPackedStill trees store late now id place
+still_later trees store early late now id place later still =
+    record { carried = still.carried; always = λ moment from to. still.always moment (omega (arith, later, from)) to; one = still.one }
+
+-- the tree after all events is that of the disk then
+pub tree_before : (first : Volume) (events : List Event) → tree_at first events (length events) ≡ tree_of (disk_after first events).state
+tree_before first events = ap (λ past. tree_of (disk_after first past).state) (take-length events)
 
 module _ (first : Volume) (events : List Event) (e : Event) where
   abbrev whole : List Event

@@ -44,8 +44,8 @@ open_in_whole events place opener begun store opened = record {
 
 -- a store that a handle has was opened by an open step, under the number of that handle or of one that it is a clone of
 opened_by : (store : Store) (events : List Event) (handle : ℕ) (modes : Modes) → Holds store events handle modes → (opener : ℕ) × IsOpenStore events opener store
-opened_by store events handle modes (FromOpen step latest ignoring) = (handle, step)
-opened_by store events handle modes (FromClone from place event parent there applied clones held latest ignoring) =
+opened_by store events handle modes (FromOpen step latest frozen ignoring) = (handle, step)
+opened_by store events handle modes (FromClone from place event parent there applied clones held latest frozen ignoring) =
     let front = opened_by store (take place events) from parent held in
     (front.0, open_in_whole events place front.0 store.opened store front.1)
 

@@ -94,13 +94,13 @@ module _ (first : Volume) (events : List Event) (is : IsKnownRun first events) (
       let here : looks.ask_of (look_now past handle running.store running.modes running.begun knows.query) ≡ Some (parts.Core (events_of.Publish listing)) =
       ap looks.ask_of (sym knows.is) ∙ asks in
       record {
-        different = rows_of_a_listing_have_different_paths setting knows.fits.distinct view knows.query.want id told knows.asked listing here;
+        different = rows_of_a_listing_have_different_paths setting knows.fits.distinct running.modes.refresh view knows.query.want id told knows.asked listing here;
         at =
             All-weaker (IsRowHanded (ShownSince first past running.store) setting running.store.parts.object_hash) (IsIndexRow setting) (λ row own. own.0) listing.rows
-            (what_is_handed_was_shown (ShownSince first past running.store) setting running.store.parts.object_hash knows.query.want id knows.fits.hashed view
+            (what_is_handed_was_shown (ShownSince first past running.store) setting running.store.parts.object_hash knows.query.want id knows.fits.hashed running.modes.refresh view
             knows.well.snapshot told knows.asked knows.well.truth (parts.Core (events_of.Publish listing)) here);
-        seen = rows_of_a_listing_were_seen setting view knows.query.want id told knows.asked listing here;
-        of_tree = rows_of_a_listing_are_those_of_the_tree setting view knows.query.want id told knows.asked listing here;
+        seen = rows_of_a_listing_were_seen setting running.modes.refresh view knows.query.want id told knows.asked listing here;
+        of_tree = rows_of_a_listing_are_those_of_the_tree setting running.modes.refresh view knows.query.want id told knows.asked listing here;
       }
   by (Calling (Refreshing refresh call)) knows asks =
       let setting = setting_in running.store in

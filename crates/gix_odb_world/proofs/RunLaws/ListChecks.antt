@@ -1,4 +1,4 @@
--- A look-up that found nothing ended with a read of the core's state, whose list is the one that was published or confirmed last for it.
+-- A look-up of a handle that refreshes its list and that found nothing ended with a read of the core's state, whose list is the one that was published or confirmed last for it.
 use Rattle.std.proofs.Common.{◌≡◌, ◌⊎◌, inl, inr, ℕ, Bool, true, false, cond, List, [], ◌∷◌, ◌++◌, slice_get, Option, Some, None, Ok, Err, refl, sym, ap, ◌∙◌, subst}
 use Rattle.std.specs.Prelude.{◌==◌}
 use Rattle.std.proofs.lemmas.Bool.{eqb-true}
@@ -39,11 +39,10 @@ use Rattle.gix_odb.specs.LoadIndex.{of_refusal}
 use Rattle.gix_odb.specs.RefreshOrder.{by_listed, by_look, by_published}
 use Rattle.gix_odb.specs.RefreshOrder as refreshes
 use Rattle.gix_odb_search.specs.ListOrder as lists
-use Rattle.gix_odb.specs.declared.refresh.Refresh.{Refresh}
 use Rattle.gix_odb.specs.declared.refresh.Refresh.TheVariants as fronts
 use Rattle.gix_odb.specs.declared.refresh.RefreshStep.{RefreshStep}
 use Rattle.gix_odb.specs.declared.refresh.RefreshStep.TheVariants as steps
-use Rattle.gix_odb.specs.LookUpOrder.{Setting, after_list, after_loose, ask_at, ask_of, at_folder, by_checked, by_read, by_refresh, by_tried}
+use Rattle.gix_odb.specs.LookUpOrder.{Setting, after_core_list, after_list, after_loose, ask_at, ask_of, at_folder, by_checked, by_read, by_refresh, by_tried}
 use Rattle.gix_odb.specs.LookUpOrder.{by_verdict, counted, ended, fed, fed_at, find_error, goal_of, is_unsettled, listing_from, load_refused}
 use Rattle.gix_odb.specs.LookUpOrder.{new_head, not_found, result_at, result_of, seen, started, trier_fed, try_view, unsettled, view_shown}
 use Rattle.gix_odb.specs.LookUpOrder.{with_own, without_absent, without_notes}
@@ -59,6 +58,9 @@ use Rattle.gix_odb.specs.declared.look_up.Purpose.TheVariants as purposes
 use Rattle.gix_odb.proofs.MissLaws.Replies.{EndsNoMiss, IsMiss, found_is_no_miss, refused_is_no_miss, verdict_is_no_miss}
 use Rattle.gix_odb_world.specs.RunLaws.Missed.{EndAtLastList, last_list, list_by}
 use Rattle.gix_odb.specs.Store.{listed_for}
+use Rattle.gix_odb.specs.RefreshMode.{by_mode}
+use Rattle.gix_odb.specs.declared.refresh_mode.RefreshMode.{RefreshMode}
+use Rattle.gix_odb.specs.declared.refresh_mode.RefreshMode.TheVariants.{AfterAllIndicesLoaded}
 
 -- ---- what passes on no listing
 
@@ -89,21 +91,37 @@ module _ (setting : Setting) (want : Want) where
   IsAt number (stages.Checking own notes) = number ≡ Some own
   IsAt number (stages.Done reply) = ¬ (IsMiss want reply)
 
+  -- the look-up wants this, and refreshes its list
+  record IsFor (head : LookHead) : Type 0 where
+    want_is : head.want ≡ want
+    refreshes : head.mode ≡ AfterAllIndicesLoaded
+
   record IsLookAt (number : Option ℕ) (look : LookUp) : Type 0 where
-    own : look.head.want ≡ want
+    own : IsFor look.head
     stage : IsAt number look.stage
 
   refused_at : (error : Error) → ¬ (IsMiss want (load_refused error))
   refused_at error = refused_is_no_miss want (call_errors.Find (find_errors.LoadIndex error))
 
-  module _ (number : Option ℕ) (head : LookHead) where
+  -- a look-up that ended with a read of the core's state whose view has the list
+  record IsChecked (number : Option ℕ) (effect : Effect) (next : LookStage) : Type 0 where
+    view : View
+    shown : view_in (Ok effect) ≡ Some view
+    newest : number ≡ Some view.list_no
+    done : ask_at next ≡ None
+
+  module _ (number : Option ℕ) (head : LookHead) (own : IsFor head) where
     -- ---- lists
+
+    core_list_at : (list_no : ℕ) (notes : Notes) → IsAt number (after_core_list setting head list_no notes)
+    core_list_at list_no notes =
+        subst (λ (mode : RefreshMode). IsAt number (by_mode (ended head.want notes) (listing_from setting list_no notes) mode)) (sym own.refreshes) tt
 
     list_at : (part : Part) → PartAt number part → (notes : Notes) → IsAt number (after_list setting head part notes)
     list_at parts.Snapshot at notes = tt
-    list_at (parts.List own true) at notes = tt
-    list_at (parts.List own false) at notes = tt
-    list_at (parts.Published own) at notes = at
+    list_at (parts.List base true) at notes = tt
+    list_at (parts.List base false) at notes = core_list_at base notes
+    list_at (parts.Published base) at notes = at
 
     tried_at : (part : Part) → PartAt number part → (result : Tried) → IsAt number (by_tried setting head part result)
     tried_at part at (tried.More trier) = at
@@ -114,10 +132,11 @@ module _ (setting : Setting) (want : Want) where
 
     -- ---- loose folders
 
-    loose_at : (part : Part) → PartAt number part → (notes : Notes) → IsAt number (after_loose setting part notes)
+    loose_at : (part : Part) → PartAt number part → (notes : Notes) → IsAt number (after_loose setting head part notes)
     loose_at parts.Snapshot at notes = tt
-    loose_at (parts.List own loose) at notes = tt
-    loose_at (parts.Published own) at notes = at
+    loose_at (parts.List base loose) at notes = core_list_at base notes
+    loose_at (parts.Published base) at notes =
+        subst (λ (mode : RefreshMode). IsAt number (by_mode (ended head.want notes) (stages.Checking base notes) mode)) (sym own.refreshes) at
 
     folder_at : (round : LooseRound) → PartAt number round.part → (folder : Option Path) → IsAt number (at_folder setting head round folder)
     folder_at round at None = loose_at round.part at round.notes
@@ -135,20 +154,13 @@ module _ (setting : Setting) (want : Want) where
     counted_at now next at true = refused_at _
     counted_at now next at false = at
 
-    -- a look-up that ended with a read of the core's state whose view has the list
-    record IsChecked (effect : Effect) (next : LookStage) : Type 0 where
-      view : View
-      shown : view_in (Ok effect) ≡ Some view
-      newest : number ≡ Some view.list_no
-      done : ask_at next ≡ None
-
     ended_asks_nothing : (b : Bool) → ask_at (cond b (stages.Done (load_refused load_errors.Io)) (stages.Done (not_found head.want))) ≡ None
     ended_asks_nothing true = refl
     ended_asks_nothing false = refl
 
     check_at : (effect : Effect) (own : ℕ) → number ≡ Some own → (notes : Notes) (view : View) → view_shown effect ≡ Some view → (b : Bool) → (view.list_no == own) ≡ b
         → let next : LookStage = cond b (ended head.want notes) (counted setting head view.list_no (listing_from setting view.list_no notes)) in
-        IsAt number next ⊎ IsChecked effect next
+        IsAt number next ⊎ IsChecked number effect next
     check_at effect own at notes view shown true same =
         inr
         (record {
@@ -161,7 +173,7 @@ module _ (setting : Setting) (want : Want) where
         inl (counted_at view.list_no (listing_from setting view.list_no notes) tt (is_unsettled setting head view.list_no))
 
     look_at : (effect : Effect) (own : ℕ) → number ≡ Some own → (notes : Notes) (view : Option View) → view_shown effect ≡ view
-        → IsAt number (by_checked setting head own notes view) ⊎ IsChecked effect (by_checked setting head own notes view)
+        → IsAt number (by_checked setting head own notes view) ⊎ IsChecked number effect (by_checked setting head own notes view)
     look_at effect own at notes None shown = inl at
     look_at effect own at notes (Some view) shown = check_at effect own at notes view shown (view.list_no == own) refl
 
@@ -170,13 +182,15 @@ module _ (setting : Setting) (want : Want) where
     read_at : (purpose : Purpose) (view : View) (notes : Notes) → IsAt number (by_read setting head purpose view notes)
     read_at (purposes.First loose) view notes =
         tried_at (parts.List view.list_no loose) tt (seek (goal_of setting head) (record { indices = view.snapshot.indices; todo = view.todo; notes = notes }))
-    read_at purposes.Again view notes = tt
+    read_at purposes.Again view notes =
+        subst (λ (mode : RefreshMode). IsAt number (by_mode (stages.Refreshing fronts.Reading (purposes.First true) notes) (listing_from setting view.list_no notes) mode))
+        (sym own.refreshes) tt
 
   -- ---- a publish
 
-  viewed_at : (head : LookHead) (view : View) (notes : Notes) → IsAt (Some view.list_no) (try_view setting head (parts.Published view.list_no) view view.todo notes)
-  viewed_at head view notes =
-      tried_at (Some view.list_no) head (parts.Published view.list_no) refl
+  viewed_at : (head : LookHead) → IsFor head → (view : View) (notes : Notes) → IsAt (Some view.list_no) (try_view setting head (parts.Published view.list_no) view view.todo notes)
+  viewed_at head own view notes =
+      tried_at (Some view.list_no) head own (parts.Published view.list_no) refl
       (seek (goal_of setting head) (record { indices = view.snapshot.indices; todo = view.todo; notes = notes }))
 
   -- a step that passes on no list
@@ -184,21 +198,23 @@ module _ (setting : Setting) (want : Want) where
   IsNoList (steps.Current view own) = ⊥
   IsNoList step = Unit {0}
 
-  step_at : (number : Option ℕ) (head : LookHead) → head.want ≡ want → (purpose : Purpose) (notes : Notes) (step : RefreshStep) → IsNoList step
+  step_at : (number : Option ℕ) (head : LookHead) → IsFor head → (purpose : Purpose) (notes : Notes) (step : RefreshStep) → IsNoList step
       → IsLookAt number (by_refresh setting head purpose notes step)
   step_at number head own purpose notes (steps.More refresh) none = record { own = own; stage = tt }
-  step_at number head own purpose notes (steps.Read view) none = record { own = own; stage = read_at number head purpose view notes }
+  step_at number head own purpose notes (steps.Read view) none = record { own = own; stage = read_at number head own purpose view notes }
   step_at number head own purpose notes (steps.Current view mine) none = absurd none
   step_at number head own purpose notes (steps.Outdated list_no) none = record {
     own = own;
-    stage = counted_at number head list_no (stages.Refreshing fronts.Reading purposes.Again notes) tt (is_unsettled setting head list_no);
+    stage = counted_at number head own list_no (stages.Refreshing fronts.Reading purposes.Again notes) tt (is_unsettled setting head list_no);
   }
   step_at number head own purpose notes (steps.Refused error) none = record { own = own; stage = refused_at error }
 
-  published_at : (number : Option ℕ) (head : LookHead) → head.want ≡ want → (listing : Listing) (purpose : Purpose) (notes : Notes) (effect : Effect)
+  published_at : (number : Option ℕ) (head : LookHead) → IsFor head → (listing : Listing) (purpose : Purpose) (notes : Notes) (effect : Effect)
       → IsLookAt (list_by number (asks.Core (events.Publish listing)) (told.Core (Ok effect))) (by_refresh setting head purpose notes (by_published listing effect))
-  published_at number head own listing purpose notes (effects.Published view) = record { own = own; stage = viewed_at (with_own head) view (without_absent notes) }
-  published_at number head own listing purpose notes (effects.Unchanged view) = record { own = own; stage = viewed_at head view (without_absent notes) }
+  published_at number head own listing purpose notes (effects.Published view) =
+      let mine : IsFor (with_own head) = record { want_is = own.want_is; refreshes = own.refreshes } in
+      record { own = mine; stage = viewed_at (with_own head) mine view (without_absent notes) }
+  published_at number head own listing purpose notes (effects.Unchanged view) = record { own = own; stage = viewed_at head own view (without_absent notes) }
   published_at number head own listing purpose notes (effects.Outdated list_no) = step_at number head own purpose notes (steps.Outdated list_no) tt
   published_at number head own listing purpose notes (effects.Seen view) = record { own = own; stage = tt }
   published_at number head own listing purpose notes (effects.Reported view report) = record { own = own; stage = tt }
@@ -226,17 +242,17 @@ module _ (setting : Setting) (want : Want) where
     asked : ask ≡ asks.Core events.Look
     effect : Effect
     answered : answer ≡ told.Core (Ok effect)
-    checked : IsChecked number next.head effect next.stage
+    checked : IsChecked number effect next.stage
 
   abbrev Goes : Option ℕ → Ask → Answer → LookUp → Type 0
   Goes number ask answer next = IsLookAt (list_by number ask answer) next ⊎ EndsHere number ask answer next
 
-  looked : (number : Option ℕ) (head : LookHead) → head.want ≡ want → (effect : Effect) (stage : LookStage)
-      → IsAt number stage ⊎ IsChecked number head effect stage → Goes number (asks.Core events.Look) (told.Core (Ok effect)) (record { head = head; stage = stage })
+  looked : (number : Option ℕ) (head : LookHead) → IsFor head → (effect : Effect) (stage : LookStage)
+      → IsAt number stage ⊎ IsChecked number effect stage → Goes number (asks.Core events.Look) (told.Core (Ok effect)) (record { head = head; stage = stage })
   looked number head own effect stage (inl at) = inl (record { own = own; stage = at })
   looked number head own effect stage (inr checked) = inr (record { asked = refl; effect = effect; answered = refl; checked = checked })
 
-  goes_at : (number : Option ℕ) (head : LookHead) → head.want ≡ want → (stage : LookStage) → IsAt number stage → (ask : Ask) (answer : Answer)
+  goes_at : (number : Option ℕ) (head : LookHead) → IsFor head → (stage : LookStage) → IsAt number stage → (ask : Ask) (answer : Answer)
       → ask_at stage ≡ Some ask → Goes number ask answer (fed_at setting head stage answer)
   goes_at number head own (stages.Trying trier part) at ask answer is =
       subst (λ (a : Ask). Goes number a answer (fed_at setting head (stages.Trying trier part) answer)) (same_Some (tries.ask_of trier) ask is)
@@ -245,7 +261,7 @@ module _ (setting : Setting) (want : Want) where
         own = own;
         stage =
             subst (λ (n : Option ℕ). IsAt n (by_tried setting head part (trier_fed trier answer))) (trying_lists_nothing number trier.stage answer)
-            (tried_at number head part at (trier_fed trier answer));
+            (tried_at number head own part at (trier_fed trier answer));
       }))
   goes_at number head own (stages.Loose round call) at ask (told.Disk answer) is =
       inl
@@ -254,7 +270,7 @@ module _ (setting : Setting) (want : Want) where
         stage =
             subst (λ (n : Option ℕ). IsAt n (by_verdict setting head round (folder_verdict call answer)))
             (loose_lists_nothing number (folder_ask call) ask (told.Disk answer) is)
-            (verdict_at number head round at (folder_verdict call answer) (verdict_is_no_miss want call answer));
+            (verdict_at number head own round at (folder_verdict call answer) (verdict_is_no_miss want call answer));
       })
   goes_at number head own (stages.Loose round call) at ask (told.Core answer) is =
       inl
@@ -289,7 +305,7 @@ module _ (setting : Setting) (want : Want) where
       by : (told_it : Answer) → Goes number (asks.Core events.Look) told_it (fed_at setting head (stages.Checking list_no notes) told_it)
       by (told.Disk own_answer) = inl (record { own = own; stage = at })
       by (told.Core (Ok effect)) =
-          looked number head own effect (by_checked setting head list_no notes (view_shown effect)) (look_at number head effect list_no at notes (view_shown effect) refl)
+          looked number head own effect (by_checked setting head list_no notes (view_shown effect)) (look_at number head own effect list_no at notes (view_shown effect) refl)
       by (told.Core (Err refusal)) = inl (record { own = own; stage = refused_at (of_refusal refusal) })
   goes_at number head own (stages.Done reply) at ask answer is = absurd (cc is)
 
@@ -350,7 +366,7 @@ module _ (setting : Setting) (want : Want) where
       → result_of (behind setting look exchanges) ≡ Ok (not_found want) → Ends number exchanges
   ends_at number look at [] asked misses = absurd (no_miss_at number look.head look.stage at.stage misses)
   ends_at number look at (exchange ∷ exchanges) asked misses =
-      elim (goes_at number (seen look.head exchange.answer) at.own look.stage at.stage exchange.ask exchange.answer asked.0) [
+      elim (goes_at number (seen look.head exchange.answer) (record { want_is = at.own.want_is; refreshes = at.own.refreshes }) look.stage at.stage exchange.ask exchange.answer asked.0) [
         | inl next ↦
             later number exchange exchanges
             (ends_at (list_by number exchange.ask exchange.answer) (fed setting look exchange.answer) next exchanges asked.1 misses)
@@ -358,18 +374,21 @@ module _ (setting : Setting) (want : Want) where
       ]
 
   module _ (id : ObjectId) (snapshot : View) where
+    own_at_start : IsFor (new_head AfterAllIndicesLoaded want id)
+    own_at_start = record { want_is = refl; refreshes = refl }
+
     starts_at : (b : Bool)
-        → IsAt None (cond b (try_view setting (new_head want id) parts.Snapshot snapshot [] without_notes) (stages.Refreshing fronts.Reading (purposes.First true) without_notes))
+        → IsAt None (cond b (try_view setting (new_head AfterAllIndicesLoaded want id) parts.Snapshot snapshot [] without_notes) (stages.Refreshing fronts.Reading (purposes.First true) without_notes))
     starts_at true =
-        tried_at None (new_head want id) parts.Snapshot tt
-        (seek (goal_of setting (new_head want id)) (record { indices = snapshot.snapshot.indices; todo = []; notes = without_notes }))
+        tried_at None (new_head AfterAllIndicesLoaded want id) own_at_start parts.Snapshot tt
+        (seek (goal_of setting (new_head AfterAllIndicesLoaded want id)) (record { indices = snapshot.snapshot.indices; todo = []; notes = without_notes }))
     starts_at false = tt
 
-    -- A look-up that found nothing ended with a read of the core's state, whose list is the one that was published or confirmed last for it.
-    pub misses_end_at_the_last_list : (exchanges : List Exchange) → AreAsked setting (started setting snapshot want id) exchanges
-        → result_of (behind setting (started setting snapshot want id) exchanges) ≡ Ok (not_found want) → EndAtLastList exchanges
+    -- A look-up of a handle that refreshes its list and that found nothing ended with a read of the core's state, whose list is the one that was published or confirmed last for it.
+    pub misses_end_at_the_last_list : (exchanges : List Exchange) → AreAsked setting (started setting AfterAllIndicesLoaded snapshot want id) exchanges
+        → result_of (behind setting (started setting AfterAllIndicesLoaded snapshot want id) exchanges) ≡ Ok (not_found want) → EndAtLastList exchanges
     misses_end_at_the_last_list exchanges asked misses =
-        let ends = ends_at None (started setting snapshot want id) (record { own = refl; stage = starts_at snapshot.read }) exchanges asked misses in
+        let ends = ends_at None (started setting AfterAllIndicesLoaded snapshot want id) (record { own = own_at_start; stage = starts_at snapshot.read }) exchanges asked misses in
         record {
           before = ends.before;
           last = ends.last;

@@ -29,8 +29,10 @@ use Rattle.gix_odb_calls.specs.declared.step.Outcome.TheVariants as outcomes
 use Rattle.gix_odb.specs.LookExchanges.{AreAsked, Exchange, IsAnswerTo, behind}
 use Rattle.gix_odb.specs.Fair.{AreFair, ItsIndex, PackedPlace}
 use Rattle.gix_odb.specs.Store.{listed_for}
-use Rattle.gix_odb.specs.LookUpOrder.{Setting, ask_of, fed, not_found, result_of, view_of}
+use Rattle.gix_odb.specs.LookUpOrder.{Setting, ask_of, fed, not_found, result_of, started, view_of}
 use Rattle.gix_odb.specs.Stream.{stream_in}
+use Rattle.gix_odb.specs.declared.refresh_mode.RefreshMode.{RefreshMode}
+use Rattle.gix_odb.specs.declared.refresh_mode.RefreshMode.TheVariants.{AfterAllIndicesLoaded}
 use Rattle.gix_odb.specs.declared.look_up.LookUp.{LookUp}
 use Rattle.gix_odb.proofs.HandedLaws.{look_ups_have_no_core_made}
 use Rattle.gix_odb_world.proofs.CoreLaws.{core_answers_suit_their_events}
@@ -209,7 +211,7 @@ module _ (first : Volume) (events : List Event) (is : IsKnownRun first events) (
 
   -- ---- the core had published a list
 
-  module _ (published : HadPublished events running.modes.core begun) where
+  module _ (refreshes : running.modes.refresh ≡ AfterAllIndicesLoaded) (published : HadPublished events running.modes.core begun) where
     reads_at : (now : ℕ) → begun ≤ now → now ≤ place → HadPublished events running.modes.core now
     reads_at zero since up = let here : begun ≡ zero = omega (arith, since) in subst (HadPublished events running.modes.core) here published
     reads_at (suc now) since up =
@@ -327,7 +329,9 @@ module _ (first : Volume) (events : List Event) (is : IsKnownRun first events) (
             (subst (AreAsked setting start) (sym (ap (λ (es : List Event). told_since es handle begun) front) ∙ first_part.1) ended.asked)
 
         closed : stream_in before ≡ None
-        closed = no_stream_is_open_before_the_loose_folder_is_asked setting query.want id folder among view before asked_before published_before loose_before
+        closed =
+            no_stream_is_open_before_the_loose_folder_is_asked setting query.want id folder among view before
+            (subst (λ (mode : RefreshMode). AreAsked setting (started setting mode view query.want id) before) refreshes asked_before) published_before loose_before
 
         -- all answers, with those that are fair after the moment
         record Parts : Type 0 where
@@ -359,16 +363,19 @@ module _ (first : Volume) (events : List Event) (is : IsKnownRun first events) (
         not_missing =
             let all_parts = parts_by (cases_lt moment (place + 1)) in
             objects_that_move_into_packs_are_not_missed setting store.parts.object_hash query.want id at.fits.hashed packed_place named among view before all_parts.rest
-            (subst (AreAsked setting start) all_parts.all ended.asked) published_before loose_before all_parts.fair
-            (sym (ap (λ (es : List Exchange). result_of (behind setting start es)) all_parts.all) ∙ ended.misses)
+            (subst (λ (mode : RefreshMode). AreAsked setting (started setting mode view query.want id) (before ++ all_parts.rest)) refreshes
+            (subst (AreAsked setting start) all_parts.all ended.asked))
+            published_before loose_before all_parts.fair
+            (sym (ap (λ (mode : RefreshMode). result_of (behind setting (started setting mode view query.want id) (before ++ all_parts.rest))) refreshes)
+            ∙ (sym (ap (λ (es : List Exchange). result_of (behind setting start es)) all_parts.all) ∙ ended.misses))
 
--- A query doesn't end with "not found", in a store whose list was read before, while its object moves from a loose file of a folder into a
--- pack there.
+-- A query of a handle that refreshes its list doesn't end with "not found", in a store whose list was read before, while its object moves from a
+-- loose file of a folder into a pack there.
 pub object_that_moves_into_a_pack_is_not_missed : (first : Volume) (events : List Event) → IsKnownRun first events
     → (place : ℕ) (e : Event) (handle : ℕ) (running : Running) (query : Query) → IsQueryTurn events place e handle running query
-    → HadPublished events running.modes.core running.begun
+    → running.modes.refresh ≡ AfterAllIndicesLoaded → HadPublished events running.modes.core running.begun
     → HasMoved (tree_at first events) running.store.parts running.begun (place + 1) query.want (sought running.store.parts running.modes.ignoring query)
     → ¬ (e.outcome ≡ outcomes.Reply (not_found query.want))
-object_that_moves_into_a_pack_is_not_missed first events is place e handle running query turn published moved missing =
-    not_missing first events is place e handle running query turn missing published moved.folder moved.moment moved.from moved.to moved.loose moved.among moved.name
+object_that_moves_into_a_pack_is_not_missed first events is place e handle running query turn refreshes published moved missing =
+    not_missing first events is place e handle running query turn missing refreshes published moved.folder moved.moment moved.from moved.to moved.loose moved.among moved.name
     (moved.packed moved.moment (omega arith) moved.to).named moved.offset moved.packed

@@ -75,5 +75,5 @@ object_at_hand_is_found_in_the_first_turn first events is place e handle running
     let at = look_turn first events is place e handle running query turn in
     let id = sought running.store.parts running.modes.ignoring query in
     ends_unasked first events place e handle running query at early
-    (object_at_hand_is_found_at_once (setting_in running.store) query.want id (view_then (take place events) handle running.modes.core running.begun)
+    (object_at_hand_is_found_at_once (setting_in running.store) running.modes.refresh query.want id (view_then (take place events) handle running.modes.core running.begun)
     (subst (IsAtHand query.want id) (sym (view_in_front events handle running.modes.core place running.begun at.since)) hand))

@@ -60,7 +60,7 @@ module _ (first : Volume) (events : List Event) (handle : ℕ) (store : Store) (
       id = sought store.parts modes.ignoring query
 
       by : (want : Want) (reply : Reply)
-          → Keeps (tree_at first events) (FailedSince events handle begun) (RefusedSince events handle modes.core begun) (told_since events handle begun) store begun (length events) want id (claim_of want reply)
+          → Keeps (tree_at first events) (FailedSince events handle begun) (RefusedSince events handle modes.core begun) (told_since events handle begun) store modes.refresh begun (length events) want id (claim_of want reply)
           → ((error : Error) → ¬ (FindCause (tree_at first events) (FailedSince events handle begun) (RefusedSince events handle modes.core begun) (told_since events handle begun) store begun (length events) want id error))
           → IsOwnOfWant want reply
       by want (replies.Refused (call_errors.Find error)) promise none = absurd (none error promise)

@@ -87,7 +87,7 @@ module _ (first : Volume) (events : List Event) (is : IsKnownRun first events) w
           → (slot : ℕ) × AsksCore e (events_of.PutIndex slot path (record { kind = running.store.parts.object_hash; bytes = bytes }))
       index_that_a_turn_read_is_stored_in_the_next index parsed =
           let put =
-          index_that_was_read_is_stored_next Shown setting running.store.parts.object_hash query.want id at.fits.hashed view at.well.snapshot told at.asked at.well.truth path bytes index parsed got in (
+          index_that_was_read_is_stored_next Shown setting running.store.parts.object_hash query.want id at.fits.hashed running.modes.refresh view at.well.snapshot told at.asked at.well.truth path bytes index parsed got in (
             put.0,
             asks_look first events place e handle running query at
                 (events_of.PutIndex put.0 path (record { kind = running.store.parts.object_hash; bytes = bytes })) (ap ask_of at.is ∙ put.1),
@@ -98,7 +98,7 @@ module _ (first : Volume) (events : List Event) (is : IsKnownRun first events) w
           → (pack : PackId) × AsksCore e (events_of.PutPack pack path (record { kind = running.store.parts.object_hash; bytes = bytes }))
       pack_that_a_turn_read_is_stored_in_the_next pack parsed =
           let put =
-          pack_that_was_read_is_stored_next Shown setting running.store.parts.object_hash query.want id at.fits.hashed view at.well.snapshot told at.asked at.well.truth path bytes pack parsed got in (
+          pack_that_was_read_is_stored_next Shown setting running.store.parts.object_hash query.want id at.fits.hashed running.modes.refresh view at.well.snapshot told at.asked at.well.truth path bytes pack parsed got in (
             put.0,
             asks_look first events place e handle running query at
                 (events_of.PutPack put.0 path (record { kind = running.store.parts.object_hash; bytes = bytes })) (ap ask_of at.is ∙ put.1),
@@ -126,5 +126,5 @@ module _ (first : Volume) (events : List Event) (is : IsKnownRun first events) w
     pub what_a_turn_stores_or_passes_over_was_just_read : (event : CoreEvent) → AsksCore e event → IsBacked events trees handle begun place running.store.parts.object_hash event
     what_a_turn_stores_or_passes_over_was_just_read event asks_it =
         backed event
-        (what_is_stored_or_passed_over_was_just_read Shown setting running.store.parts.object_hash query.want id at.fits.hashed view at.well.snapshot told at.asked at.well.truth event
+        (what_is_stored_or_passed_over_was_just_read Shown setting running.store.parts.object_hash query.want id at.fits.hashed running.modes.refresh view at.well.snapshot told at.asked at.well.truth event
         (sym (ap ask_of at.is) ∙ look_asks first events place e handle running query at event asks_it))

@@ -1,5 +1,5 @@
 -- The listing that a refresh passes to the core of its store: its rows were seen, and where one tree answers they are the tree's listed files.
-use Rattle.std.proofs.Common.{◌≡◌, ℕ, Bool, true, false, cond, List, [], ◌∷◌, Contains, Option, Some, None, Ok, Err, sym, ap, subst}
+use Rattle.std.proofs.Common.{◌≡◌, Bool, true, false, cond, List, [], ◌∷◌, Contains, Option, Some, None, Ok, Err, sym, subst}
 use Rattle.std.specs.List.{All}
 use Rattle.std.proofs.lemmas.Option.{same_Some}
 use Rattle.odb_disk.specs.declared.ask.DiskAnswer.{DiskAnswer}

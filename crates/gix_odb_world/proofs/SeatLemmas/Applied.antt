@@ -29,7 +29,7 @@ use Rattle.gix_odb_history.specs.Cores.{cores_after, cores_after_asked, history_
 use Rattle.gix_odb_history.specs.Event.{Asked, CoreEvent, Event, OfCore, OfNothing}
 use Rattle.gix_odb_world.specs.Headline.{IsTurn, asked_applied, asked_by_clone, asked_by_close}
 use Rattle.gix_odb_world.specs.Seats.{IsNowhere, IsSeated}
-use Rattle.gix_odb_world.specs.Status.{Free, MakeCall, Modes, OpenStore, Resting, Status, Store, Task, Working, cloned, ignoring_from, modes_after}
+use Rattle.gix_odb_world.specs.Status.{Free, MakeCall, Modes, OpenStore, Resting, Status, Store, Task, Working, cloned, frozen_from, ignoring_from, modes_after}
 use Rattle.gix_odb_world.specs.Status.{started, status_after, status_of, with_status}
 use Rattle.gix_odb_world.proofs.HistoryLemmas.{cores_after-push}
 use Rattle.gix_odb_world.specs.Valid.{is_openable, phase_of, why_not_after, why_not_clone, why_not_idle, why_not_open}
@@ -159,6 +159,13 @@ module _ (past : List Event) (e : Event) where
         (subst (λ a. IsSeated (cores_after now) number (modes_after a modes)) (sym is) own)
         (λ apart. kept handle (carry_core modes.core number (core_events.Register false) (effects.Seen view) is handle apart))
 
+    freezing : (number : ℕ) (status : Status) → Carries number → Stands past number status → Stands now number (frozen_from status)
+    freezing number Free carries stands = over number Free carries stands
+    freezing number (Resting store modes) carries stands =
+        let seated = carries.seated modes stands in
+        record { history = seated.history; there = seated.there; slots = seated.slots; registered = seated.registered; only = seated.only; snapshot = seated.snapshot }
+    freezing number (Working running) carries stands = over number (Working running) carries stands
+
     ignoring : (number : ℕ) (status : Status) → Carries number → Stands past number status → Stands now number (ignoring_from status)
     ignoring number Free carries stands = over number Free carries stands
     ignoring number (Resting store modes) carries stands =
@@ -184,6 +191,8 @@ module _ (past : List Event) (e : Event) where
           let free = is_free_for_clone (table number) (table from) valid in
           clone_at number from (table from) free.0 free.1 (before from) is handle
       applied_by (steps.Close number) no_turn valid is handle = close_at number (table number) refl valid is handle
+      applied_by (steps.Never number) no_turn valid is handle =
+          set number _ handle (freezing number (table number) (carry_nothing is number) (before number)) (λ apart. kept handle (carry_nothing is handle))
       applied_by (steps.Ignore number) no_turn valid is handle =
           set number _ handle (ignoring number (table number) (carry_nothing is number) (before number)) (λ apart. kept handle (carry_nothing is handle))
       applied_by (steps.Start number call) no_turn valid is handle =

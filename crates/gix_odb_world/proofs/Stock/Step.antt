@@ -1,9 +1,10 @@
 -- What one event does to the cores of stores, and to whose cores they are.
 pub mod Grown
-use Rattle.std.proofs.Common.{◌≡◌, ℕ, ◌+◌, Bool, true, false, List, [], ◌∷◌, ◌++◌, length, Option, Some, None, refl, sym, ◌∙◌, ap, subst}
+use Rattle.std.proofs.Common.{◌≡◌, ℕ, ◌+◌, ◌≤◌, Bool, true, false, List, [], ◌∷◌, ◌++◌, length, Option, Some, None, refl, sym, ◌∙◌, ap, subst}
 use Rattle.std.specs.Prelude.{◌==◌, slice_get, unwrap_or, if◌then◌else◌}
 use Rattle.std.specs.List.{last_or}
 use Rattle.odb_disk.specs.MemDisk.{Volume}
+use Rattle.gix_hash.specs.declared.object_id.ObjectId.{ObjectId}
 use Rattle.gix_odb_core.specs.History.{History, opened, present}
 use Rattle.gix_odb_core.specs.Replay.{CanHappen}
 use Rattle.gix_odb_events.specs.declared.event.Event.TheVariants as core_events
@@ -25,6 +26,8 @@ use Rattle.gix_odb.specs.RefreshOrder as refreshes
 use Rattle.gix_odb.proofs.RefreshLaws.{what_a_refresh_hands_on_is_of_the_folders}
 use Rattle.gix_odb_world.proofs.RefreshHappenLaws.{what_a_refresh_hands_on_can_happen}
 use Rattle.gix_odb.specs.Contents.{sought}
+use Rattle.gix_odb.specs.Fair.{PackedPlace}
+use Rattle.gix_odb.proofs.PublishedLaws.{look_ups_publish_what_stayed, refreshes_publish_what_stayed}
 use Rattle.gix_odb.specs.declared.call_state.CallStage.TheVariants.{Looking, Refreshing, Refused, Writing}
 use Rattle.gix_odb.specs.declared.open_state.OpenStage.TheVariants as opens
 use Rattle.gix_odb_loose.specs.LooseOrder.{disk_ask_of}
@@ -38,10 +41,11 @@ use Rattle.gix_odb.specs.CallOrder.{loose_ask}
 use Rattle.gix_odb_world.specs.Headline.{IsLawful, IsTurn, Law, Suits, Works, asked_applied, asked_by_clone, asked_by_close, stand_of}
 use Rattle.gix_odb_world.specs.Machines.{ask_in, fed_in}
 use Rattle.gix_odb_world.specs.Promise.{Promise}
-use Rattle.gix_odb_history.specs.Run.{disk_after, told_now}
+use Rattle.gix_odb_history.specs.Run.{disk_after, told_now, tree_at}
 use Rattle.gix_odb_world.specs.Running.{Knows, Runs}
+use Rattle.gix_odb_world.specs.Running.PackedStill.{IsPackedStill}
 use Rattle.gix_odb_world.specs.Seats.{HasSeat, IsNowhere}
-use Rattle.gix_odb_world.specs.Status.{Free, Resting, Status, Working, cloned, come_to, ignoring_from, refuses_opening, replied, started, status_after, status_of, turned, with_status}
+use Rattle.gix_odb_world.specs.Status.{Free, Resting, Status, Working, cloned, come_to, frozen_from, ignoring_from, refuses_opening, replied, started, status_after, status_of, turned, with_status}
 use Rattle.gix_odb_world.specs.Told.{told_since, view_then}
 use Rattle.gix_odb_history.specs.Turned.{is_done}
 use Rattle.gix_odb_world.specs.Valid.{misuse_of, why_not_after}
@@ -51,7 +55,8 @@ use Rattle.gix_odb_world.proofs.SeatLemmas.Applied.{is_free_for_clone}
 use Rattle.gix_odb_world.proofs.SeatLemmas.Opened.{left_of}
 use Rattle.gix_odb_world.proofs.ReadsShown.{reads_were_shown}
 use Rattle.gix_odb_world.proofs.RunSteps.{at_work, turn_step}
-use Rattle.gix_odb_world.proofs.Stock.OneCore.{ShownSince}
+use Rattle.gix_odb_world.proofs.PackedStill.Moments.{still_later}
+use Rattle.gix_odb_world.proofs.Stock.OneCore.{ListsStill, ShownSince, lists_if_published}
 use Rattle.gix_odb_world.proofs.Stock.Owned.{AreStocked, Owns, OwnsAt}
 use Rattle.gix_odb_world.proofs.Stock.Step.Grown.{GrowsTo, grown_core, grown_new, grown_same}
 use Rattle.gix_odb_world.proofs.ValidLaws.{done_if_sound, valid_if_sound}
@@ -60,6 +65,11 @@ use Rattle.gix_odb_world.proofs.ValidLaws.{done_if_sound, valid_if_sound}
 last_is : {A : Type 0} (xs : List A) (x : A) (o : Option A) → last_or o (xs ++ x ∷ []) ≡ Some x
 last_is [] x o = refl
 last_is (y ∷ xs) x o = last_is xs x (Some y)
+
+-- a call on loose objects asks a core for nothing
+no_loose_event : (asked : Option DiskAsk) (event : CoreEvent) → ¬ (loose_ask asked ≡ Some (parts.Core event))
+no_loose_event None event is = cc is
+no_loose_event (Some ask) event is = cc is
 
 module _ (first : Volume) (past : List Event) (e : Event) (lawful : IsLawful first past) (runs : (handle : ℕ) → Runs first past handle (status_of past handle))
     (law : Law first past e) (before : AreStocked first past) where
@@ -112,6 +122,11 @@ module _ (first : Volume) (past : List Event) (e : Event) (lawful : IsLawful fir
 
   -- ---- a step that was applied
 
+  owns_frozen : (stores : List Store) (status : Status) → Owns stores status → Owns stores (frozen_from status)
+  owns_frozen stores Free owns = tt
+  owns_frozen stores (Resting store modes) owns = owns
+  owns_frozen stores (Working running) owns = owns
+
   owns_ignoring : (stores : List Store) (status : Status) → Owns stores status → Owns stores (ignoring_from status)
   owns_ignoring stores Free owns = tt
   owns_ignoring stores (Resting store modes) owns = owns
@@ -121,6 +136,10 @@ module _ (first : Volume) (past : List Event) (e : Event) (lawful : IsLawful fir
   applied (steps.Open number path folders hash replacements options) step out is valid =
       let grows = grown_same first past e before OfNothing is refl in
       finish before.stores grows (λ handle. after_is _ _ step out handle before.stores (set before.stores grows number _ tt handle))
+  applied (steps.Never number) step out is valid =
+      let grows = grown_same first past e before OfNothing is refl in
+      finish before.stores grows
+      (λ handle. after_is _ _ step out handle before.stores (set before.stores grows number _ (owns_frozen before.stores (table number) (kept before.stores grows number)) handle))
   applied (steps.Ignore number) step out is valid =
       let grows = grown_same first past e before OfNothing is refl in
       finish before.stores grows
@@ -150,7 +169,7 @@ module _ (first : Volume) (past : List Event) (e : Event) (lawful : IsLawful fir
           finish before.stores grows (λ handle. after_is _ _ step out handle before.stores (set before.stores grows number Free tt handle))
       by (Resting store modes) at has is =
           let there : history_at cores modes.core ≡ has.history = ap (λ o. unwrap_or o (opened 0 0 0 0)) has.there in
-          let grows = grown_core first past e before modes.core number core_events.Remove is (subst (λ h. CanHappen (present h) number core_events.Remove) (sym there) has.registered) (λ own has. tt) in
+          let grows = grown_core first past e before modes.core number core_events.Remove is (subst (λ h. CanHappen (present h) number core_events.Remove) (sym there) has.registered) (λ own has. tt) (λ own has. tt) in
           finish before.stores grows (λ handle. after_is _ _ step out handle before.stores (set before.stores grows number Free tt handle))
   applied (steps.Clone number from) step out is valid = by (table from) refl (seat number) (before.owned from) is
     where
@@ -169,7 +188,7 @@ module _ (first : Volume) (past : List Event) (e : Event) (lawful : IsLawful fir
       by (Resting store modes) at has owns is =
           let nowhere : IsNowhere cores number = subst (HasSeat past number) free has in
           let own : slice_get before.stores modes.core ≡ Some store = subst (Owns before.stores) at owns in
-          let grows = grown_core first past e before modes.core number (core_events.Register false) is (nowhere modes.core) (λ other has. tt) in
+          let grows = grown_core first past e before modes.core number (core_events.Register false) is (nowhere modes.core) (λ other has. tt) (λ other has. tt) in
           finish before.stores grows (λ handle. after_is _ _ step out handle before.stores
           (set before.stores grows number _
           (subst (λ s. Owns before.stores (cloned e.asked s)) (sym at)
@@ -186,6 +205,12 @@ module _ (first : Volume) (past : List Event) (e : Event) (lawful : IsLawful fir
 
     knows : Knows first past number running running.work
     knows = (subst (Runs first past number) status (runs number)).1
+
+    -- what stayed unchanged in a pack since the store was opened did so since the task was set
+    later : (id : ObjectId) (place : PackedPlace) → running.store.opened ≤ running.begun
+        → IsPackedStill (tree_at first past) running.store running.store.opened (length past) id place
+        → IsPackedStill (tree_at first past) running.store running.begun (length past) id place
+    later id place early still = still_later (tree_at first past) running.store running.store.opened running.begun (length past) id place early still
 
     -- what work asks a core for can happen, and is what was read
     module _ (event : CoreEvent) where
@@ -205,21 +230,41 @@ module _ (first : Volume) (past : List Event) (e : Event) (lawful : IsLawful fir
                 (reads_were_shown first past lawful number running.begun running.store.opened knows.opened) event asked,
             what_a_refresh_hands_on_can_happen setting snapshot exchanges knows.asked knows.distinct event asked (present (history_at cores running.modes.core)) number,
           )
-      handed_by (Calling (Writing call)) is knows = absurd (no_event (disk_ask_of call) is)
-        where
-          no_event : (asked : Option DiskAsk) → ¬ (loose_ask asked ≡ Some (parts.Core event))
-          no_event None is = cc is
-          no_event (Some ask) is = cc is
+      handed_by (Calling (Writing call)) is knows = absurd (no_loose_event (disk_ask_of call) event is)
       handed_by (Calling (Looking look)) is knows =
           let asked = ap looks.ask_of (sym knows.is) ∙ is in
           let setting = setting_in running.store in
           let id = sought running.store.parts running.modes.ignoring knows.query in
           let view = view_then past number running.modes.core running.begun in
           let exchanges = told_since past number running.begun in (
-            what_is_handed_was_shown (ShownSince first past running.store) setting running.store.parts.object_hash knows.query.want id knows.fits.hashed view knows.well.snapshot exchanges
+            what_is_handed_was_shown (ShownSince first past running.store) setting running.store.parts.object_hash knows.query.want id knows.fits.hashed running.modes.refresh view knows.well.snapshot exchanges
                 knows.asked knows.well.truth (parts.Core event) asked,
-            what_is_handed_can_happen setting knows.fits.distinct view knows.query.want id exchanges knows.asked event asked (present (history_at cores running.modes.core)) number,
+            what_is_handed_can_happen setting knows.fits.distinct running.modes.refresh view knows.query.want id exchanges knows.asked event asked (present (history_at cores running.modes.core)) number,
           )
+
+      -- and a listing has what stayed unchanged in a pack
+      lists_by : (work : Work) → ask_in running.store work ≡ Some (parts.Core event) → Knows first past number running work → ListsStill first past running.store event
+      lists_by (Opening opens.Looking) is knows = absurd (cc is)
+      lists_by (Opening (opens.Listing lister percent minimum)) is knows = absurd (cc is)
+      lists_by (Opening (opens.Registering slots)) is knows = absurd (cc is)
+      lists_by (Opening (opens.Done reply)) is knows = absurd (cc is)
+      lists_by (Calling (Refused error)) is knows = absurd (cc is)
+      lists_by (Calling (Refreshing refresh call)) is knows =
+          let asked = ap refreshes.asked_of (sym knows.refresh_is) ∙ is in
+          lists_if_published first past running.store event
+          (λ listing same id place among still.
+          refreshes_publish_what_stayed (setting_in running.store) running.store.parts.object_hash id place still.carried among
+          (view_then past number running.modes.core running.begun) (told_since past number running.begun) knows.asked
+          (knows.well.met id place (later id place knows.opened still)) listing (asked ∙ ap (λ (own : CoreEvent). Some (parts.Core own)) same))
+      lists_by (Calling (Writing call)) is knows = absurd (no_loose_event (disk_ask_of call) event is)
+      lists_by (Calling (Looking look)) is knows =
+          let asked = ap looks.ask_of (sym knows.is) ∙ is in
+          lists_if_published first past running.store event
+          (λ listing same id place among still.
+          look_ups_publish_what_stayed (setting_in running.store) running.store.parts.object_hash id place still.carried among running.modes.refresh
+          (view_then past number running.modes.core running.begun) knows.query.want (sought running.store.parts running.modes.ignoring knows.query)
+          (told_since past number running.begun) knows.asked
+          (knows.well.met id place (later id place knows.well.opened still)) listing (asked ∙ ap (λ (own : CoreEvent). Some (parts.Core own)) same))
 
     -- the opening of an open store has the core that it made
     opening_made : (task : Task) → running.task ≡ task → task ≡ OpenStore → (reply : Reply) → e.outcome ≡ outcomes.Reply reply → refuses_opening reply ≡ false
@@ -294,20 +339,22 @@ module _ (first : Volume) (past : List Event) (e : Event) (lawful : IsLawful fir
         let own = handed_by event running.work asks knows in
         record {
           stores = before.stores;
-          grows = grown_core first past e before running.modes.core number event is own.1 (λ store has. one_store store has order own.0);
+          grows =
+              grown_core first past e before running.modes.core number event is own.1
+              (λ store has.
+              one_store (λ (o : Store). IsHanded (ShownSince first past o) (setting_in o) o.parts.object_hash event) store has order own.0)
+              (λ store has. one_store (λ (o : Store). ListsStill first past o event) store has order (lists_by event running.work asks knows));
           rests = rests_by (told (Some (parts.Core event))) is refl (λ slots folders core seat answer same. cc same) running.task refl owned_now;
           goes = goes_by (told (Some (parts.Core event))) is refl running.task owned_now;
         }
       where
         -- the core of the handle is that of its own store alone
-        one_store : (store : Store) → slice_get before.stores running.modes.core ≡ Some store
-            → MayAskCore past number running.store running.modes running.begun running.task event
-            → IsHanded (ShownSince first past running.store) (setting_in running.store) running.store.parts.object_hash event
-            → IsHanded (ShownSince first past store) (setting_in store) store.parts.object_hash event
-        one_store store has may handed =
+        one_store : (P : Store → Type 0) (store : Store) → slice_get before.stores running.modes.core ≡ Some store
+            → MayAskCore past number running.store running.modes running.begun running.task event → P running.store → P store
+        one_store P store has may own =
             let both : Some running.store ≡ Some store = sym (owned_by running.task may owned_now) ∙ has in
             let same : running.store ≡ store = cc both in
-            subst (λ (o : Store). IsHanded (ShownSince first past o) (setting_in o) o.parts.object_hash event) same handed
+            subst P same own
           where
             owned_by : (task : Task) → MayAskCore past number running.store running.modes running.begun task event → OwnsAt before.stores running.store running.modes task
                 → slice_get before.stores running.modes.core ≡ Some running.store

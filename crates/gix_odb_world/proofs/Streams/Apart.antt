@@ -130,10 +130,10 @@ asks_own first events handle running (Calling (Looking look)) knows ask is =
     record {
       opens = λ path same.
           look_ups_open_folders_of_packs (ShownSince first events running.store) (setting_in running.store) running.store.parts.object_hash knows.query.want
-          (sought running.store.parts running.modes.ignoring knows.query) knows.fits.hashed (view_then events handle running.modes.core running.begun) knows.well.snapshot
+          (sought running.store.parts running.modes.ignoring knows.query) knows.fits.hashed running.modes.refresh (view_then events handle running.modes.core running.begun) knows.well.snapshot
           (told_since events handle running.begun) knows.asked knows.well.truth path (asked ∙ ap (λ a. Some (parts.Disk a)) same);
       on = λ dir on_it.
-          let own = streams_of_look_ups_are_their_own (setting_in running.store) (view_then events handle running.modes.core running.begun) knows.query.want
+          let own = streams_of_look_ups_are_their_own (setting_in running.store) running.modes.refresh (view_then events handle running.modes.core running.begun) knows.query.want
           (sought running.store.parts running.modes.ignoring knows.query) (told_since events handle running.begun) knows.asked dir
           (on_stream (looks.ask_of (look_now events handle running.store running.modes running.begun knows.query)) ask asked dir on_it) in
           (own.stream, own.told, own.number);

@@ -24,7 +24,7 @@ use Rattle.gix_odb_world.specs.AtWork.{Running, Store}
 use Rattle.gix_odb_history.specs.Event.{Asked, Event, OfCore, OfDisk, OfNewCore, OfNothing, answered}
 use Rattle.gix_odb_world.specs.Machines.{fed_in}
 use Rattle.gix_odb_history.specs.Run.{disk_after, disk_after_asked, disk_after_change, tree_at}
-use Rattle.gix_odb_world.specs.Status.{Free, Resting, Status, Working, after_reply, cloned, come_to, ignoring_from, refuses_opening, replied, started, status_after, status_of, turned, with_status}
+use Rattle.gix_odb_world.specs.Status.{Free, Resting, Status, Working, after_reply, cloned, come_to, frozen_from, ignoring_from, refuses_opening, replied, started, status_after, status_of, turned, with_status}
 use Rattle.gix_odb_world.proofs.HistoryLemmas.{disk_after-push, status_of-push, tree_at-before}
 
 -- ---- an open stream
@@ -131,6 +131,11 @@ module _ (first : Volume) (past : List Event) (e : Event) where
   goes_cloned handle asked (Resting store modes) = tt
   goes_cloned handle asked (Working running) = tt
 
+  goes_frozen : (handle : ℕ) (status : Status) → table handle ≡ status → Goes handle (frozen_from status)
+  goes_frozen handle Free is = tt
+  goes_frozen handle (Resting store modes) is = tt
+  goes_frozen handle (Working running) is = goes_same handle (Working running) is
+
   goes_ignoring : (handle : ℕ) (status : Status) → table handle ≡ status → Goes handle (ignoring_from status)
   goes_ignoring handle Free is = tt
   goes_ignoring handle (Resting store modes) is = tt
@@ -159,6 +164,7 @@ module _ (first : Volume) (past : List Event) (e : Event) where
   goes_by (steps.Open number path folders hash replacements options) outcomes.Applied asked handle = goes_set number _ (inl refl) handle
   goes_by (steps.Clone number from) outcomes.Applied asked handle = goes_set number _ (goes_cloned number asked (table from)) handle
   goes_by (steps.Close number) outcomes.Applied asked handle = goes_set number Free tt handle
+  goes_by (steps.Never number) outcomes.Applied asked handle = goes_set number _ (goes_frozen number (table number) refl) handle
   goes_by (steps.Ignore number) outcomes.Applied asked handle = goes_set number _ (goes_ignoring number (table number) refl) handle
   goes_by (steps.Start number call) outcomes.Applied asked handle = goes_set number _ (goes_started number call (table number) refl) handle
   goes_by (steps.Turn number) outcomes.Applied asked handle = goes_same handle (table handle) refl

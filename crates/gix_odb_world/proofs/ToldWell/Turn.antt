@@ -29,6 +29,7 @@ use Rattle.gix_odb.specs.Laps as streams
 use Rattle.gix_odb.specs.Laps.{AreNumbered, AreWithin, IsNumbered, number_by}
 use Rattle.gix_odb.specs.LookUpOrder.{Setting, ask_of}
 use Rattle.gix_odb.specs.Shown.{IsHanded, IsShownView}
+use Rattle.gix_odb.specs.StillListed.{AreFairOrFailed, IsFairOrFailed, IsListed}
 use Rattle.gix_odb.specs.Store.{listed_for}
 use Rattle.gix_odb.specs.Stream.{stream_by, stream_in}
 use Rattle.gix_odb.specs.True.{IsTrue}
@@ -39,7 +40,7 @@ use Rattle.gix_odb_world.proofs.CoreLaws.Wider.{AreTrue-wider, IsHanded-wider, I
 use Rattle.gix_odb.proofs.FoundLaws.{what_is_handed_was_shown}
 use Rattle.gix_odb.proofs.HandedLaws.{IsOwnStream, streams_of_look_ups_are_their_own}
 use Rattle.gix_odb_world.proofs.HappenLaws.{what_is_handed_can_happen}
-use Rattle.gix_odb.specs.Contents.{sought}
+use Rattle.gix_odb.specs.Contents.{folder_list, sought}
 use Rattle.gix_odb_world.specs.AtWork.{Running, Store, setting_in}
 use Rattle.gix_odb_world.specs.Bound.{HasAtMost}
 use Rattle.gix_odb_history.specs.Cores.{answer_behind, cores_after, cores_after_asked, entered, entry_of, history_at}
@@ -52,7 +53,7 @@ use Rattle.gix_odb_world.specs.Told.{look_now, told_since, view_then}
 use Rattle.gix_odb_world.proofs.DiskTold.{failed_or_told, is_true, suits}
 use Rattle.gix_odb_world.proofs.HistoryLemmas.{cores_after-push, failed-kept, failed_before, tree_at-before}
 use Rattle.gix_odb_world.proofs.MachineLaws.{IsRunning, IsTurnAsking}
-use Rattle.gix_odb_world.proofs.PackedStill.{AreFair-push, told_fairly}
+use Rattle.gix_odb_world.proofs.PackedStill.{AreFair-push, AreFairOrFailed-push, told_fairly, told_fairly_or_failed}
 use Rattle.gix_odb_world.proofs.PackedStill.Moments.{shown_index_is_sound, still_before}
 use Rattle.gix_odb_world.proofs.PackedStill.Rule.{multis_show_one}
 use Rattle.gix_odb_world.proofs.QuietTurn.{failed_now}
@@ -66,6 +67,7 @@ use Rattle.gix_odb_world.proofs.Streams.{next_entry_suits, streams_are_short}
 use Rattle.gix_odb_world.proofs.ToldLemmas.{told_turn, view_kept}
 use Rattle.gix_odb_world.proofs.ToldLists.{AreAnswered-push, AreNumbered-push, AreWithin-push, among_more, last_among, number_after-push, one_of_more, within_last}
 use Rattle.gix_odb_world.proofs.ToldWell.{given_later, list_rises, most_before, no_failure}
+use Rattle.gix_odb_world.proofs.ToldWell.Listed.{answers_list_what_stayed}
 
 -- the core of a store begins with a state number of 64 bits
 low_state : (first : Volume) (events : List Event) (store : Store) (history : History) → IsOfStore first events store history → history.opening.state_id ≤ last_state
@@ -122,6 +124,11 @@ module _ (first : Volume) (events : List Event) (e : Event) where
       fails : FailedSince whole handle begun → FailedSince events handle begun ⊎ (exchange.answer ≡ told.Disk (answers.Refused errors.Failed))
       fair : (id : ObjectId) (place : PackedPlace) → ¬ (FailedSince whole handle begun)
           → IsPackedStill (tree_at first whole) store begun (length whole) id place → IsFair multi store.parts.object_hash id place before exchange.ask exchange.answer
+      met : (id : ObjectId) (place : PackedPlace) → IsPackedStill (tree_at first whole) store begun (length whole) id place
+          → IsFairOrFailed multi store.parts.object_hash id place before exchange.ask exchange.answer
+      listed : (id : ObjectId) (place : PackedPlace) → Contains (folder_list store.parts) place.folder
+          → IsPackedStill (tree_at first whole) store store.opened (length whole) id place
+          → IsListed multi store.parts.object_hash id place exchange.ask exchange.answer
 
     told_more : (exchange : Exchange) → told_since whole handle begun ≡ before ++ exchange ∷ [] → (core < length (cores_after whole)) → IsToldTruly exchange
         → IsToldWell first whole handle store running.modes begun
@@ -161,6 +168,16 @@ module _ (first : Volume) (events : List Event) (e : Event) where
           (AreFair-push multi store.parts.object_hash id place [] before exchange
           (well.fair id place (λ failed. works (failed-kept events e handle begun failed)) (still_before first events e store begun id place still))
           (truly.fair id place works still));
+      met = λ id place still.
+          subst (AreFairOrFailed multi store.parts.object_hash id place []) (sym same)
+          (AreFairOrFailed-push multi store.parts.object_hash id place [] before exchange
+          (well.met id place (still_before first events e store begun id place still)) (truly.met id place still));
+      listed = λ id place known still one is.
+          elim (one_of_more before exchange one (subst (λ xs. Contains xs one) same is)) [
+            | inl old ↦ well.listed id place known (still_before first events e store store.opened id place still) one old
+            | inr last ↦
+                subst (λ (x : Exchange). IsListed multi store.parts.object_hash id place x.ask x.answer) (sym last) (truly.listed id place known still)
+          ];
     }
 
     -- ---- an event of the core of its store
@@ -195,11 +212,11 @@ module _ (first : Volume) (events : List Event) (e : Event) where
       handed : IsHanded (ShownSince first events store) setting store.parts.object_hash event
       handed =
           what_is_handed_was_shown (ShownSince first events store) setting store.parts.object_hash knows.query.want (sought store.parts running.modes.ignoring knows.query) knows.fits.hashed
-          (view_then events handle core begun) well.snapshot before knows.asked well.truth (parts.Core event) asked_now
+          running.modes.refresh (view_then events handle core begun) well.snapshot before knows.asked well.truth (parts.Core event) asked_now
 
       can : CanHappen (present history) handle event
       can =
-          what_is_handed_can_happen setting knows.fits.distinct (view_then events handle core begun) knows.query.want (sought store.parts running.modes.ignoring knows.query)
+          what_is_handed_can_happen setting knows.fits.distinct running.modes.refresh (view_then events handle core begun) knows.query.want (sought store.parts running.modes.ignoring knows.query)
           before knows.asked event asked_now (present history) handle
 
       answer_is : answer ≡ answer_behind history handle event
@@ -256,6 +273,11 @@ module _ (first : Volume) (events : List Event) (e : Event) where
             shown_index_is_sound (tree_at first events) store begun (length events) id place (still_before first events e store begun id place still) well.opened
             knows.since by_index bytes (shown_at (tree_at first events) store.opened (length events) (index_at place) bytes was))
             before;
+        met = λ id place still. core_answers_suit_their_events history.opening history.entries handle event answer answer_is;
+        listed = λ id place known still.
+            subst (λ (a : CoreAnswer). IsListed multi store.parts.object_hash id place (parts.Core event) (told.Core a)) (sym answer_is)
+            (answers_list_what_stayed first events store history stock.of rule id place known
+            (still_before first events e store store.opened id place still) handle event);
       }
 
       pub told_well_on_core : IsToldWell first whole handle store running.modes begun
@@ -281,7 +303,7 @@ module _ (first : Volume) (events : List Event) (e : Event) where
       -- a stream that it reads on is its own
       own_stream : (dir : ℕ) → ask ≡ asks.NextEntry dir → IsOwnStream before dir
       own_stream dir is =
-          streams_of_look_ups_are_their_own setting (view_then events handle core begun) knows.query.want (sought store.parts running.modes.ignoring knows.query) before
+          streams_of_look_ups_are_their_own setting running.modes.refresh (view_then events handle core begun) knows.query.want (sought store.parts running.modes.ignoring knows.query) before
           knows.asked dir (inl (disk_asked ∙ ap (λ a. Some (parts.Disk a)) is))
 
       -- the tree that answers is that of the moment before
@@ -323,6 +345,8 @@ module _ (first : Volume) (events : List Event) (e : Event) where
         fails = λ failed. failed_or_told first events e handle running knows.since ask turn failed;
         fair = λ id place works still.
             told_fairly first events e handle running ran knows.since id place still ask own_stream tree_before turn works;
+        met = λ id place still. told_fairly_or_failed first events e handle running ran knows.since id place still ask own_stream tree_before;
+        listed = λ id place known still. tt;
       }
 
       pub told_well_on_disk : IsToldWell first whole handle store running.modes begun

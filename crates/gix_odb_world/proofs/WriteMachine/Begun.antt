@@ -146,9 +146,9 @@ module _ (first : Volume) (events : List Event) (e : Event) (handle : ℕ) (stor
 
   no_query : (query : Query) (state : WriteState) → ¬ (begun_with store modes (MakeCall (call_of query)) ≡ work_of state)
   no_query query state is =
-      no_look (looks.started (setting_in store) (view_in_modes modes) query.want (sought store.parts modes.ignoring query)) state
+      no_look (looks.started (setting_in store) modes.refresh (view_in_modes modes) query.want (sought store.parts modes.ignoring query)) state
       (ap (λ (s : CallStage). Calling s)
-      (sym (by_call-call_of (λ (q : Query). calls.looking (setting_in store) (view_in_modes modes) (sought store.parts modes.ignoring) q)
+      (sym (by_call-call_of (λ (q : Query). calls.looking (setting_in store) modes.refresh (view_in_modes modes) (sought store.parts modes.ignoring) q)
       (λ kind size bytes known. fronted (started (view_in_modes modes)) (calls.writing store.parts.objects store.parts.object_hash kind size bytes known)) query)) ∙ is)
 
   -- a state at which a task begins is that of its write

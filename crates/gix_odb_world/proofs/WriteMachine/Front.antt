@@ -188,7 +188,7 @@ module _ (first : Volume) (events : List Event) (handle : ℕ) (running : Runnin
                 subst (λ n. fronts.More own ≡ refresh_now whole handle store (record running.modes { core = n }) running.begun) (sym core) (sym same ∙ stands);
             asked = subst (λ n. AreAsked setting (refresh_begun whole handle (record running.modes { core = n }) running.begun) all) (sym core) all_asked;
             turns = sym longer;
-            well = record { suited = well.suited; answered = well.answered; within = well.within };
+            well = record { suited = well.suited; answered = well.answered; within = well.within; met = well.met };
             refused = subst (λ n. AreRefused whole handle n running.begun) (sym core) refused;
             unchanged = unchanged;
           },

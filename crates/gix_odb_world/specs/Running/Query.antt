@@ -1,5 +1,5 @@
 -- What a query knows since it began. No public clause cites this.
-use Rattle.std.specs.Prelude.{◌≡◌, ℕ, ◌<◌, ◌≤◌, true, List, [], ◌∷◌, length, None}
+use Rattle.std.specs.Prelude.{◌≡◌, ℕ, ◌<◌, ◌≤◌, true, List, [], ◌∷◌, length, Contains, None}
 use Rattle.std.specs.List.{IsDistinct}
 use Rattle.odb_disk.specs.Ask.{answer_now, fails_now}
 use Rattle.odb_disk.specs.MemDisk.{Volume}
@@ -15,6 +15,7 @@ use Rattle.gix_odb_events.specs.declared.answer.Ask.TheVariants as asks
 use Rattle.gix_odb_events.specs.PackFiles.{same_path}
 use Rattle.gix_odb.specs.LookExchanges.{AreAnswered, AreAsked, Exchange, HasFailed, WasTold}
 use Rattle.gix_odb.specs.Fair.{AreFair, PackedPlace}
+use Rattle.gix_odb.specs.StillListed.{AreFairOrFailed, AreListed}
 use Rattle.gix_odb.specs.Laps.{AreNumbered, AreWithin, number_by}
 use Rattle.gix_odb.specs.Shown.{IsShownView}
 use Rattle.gix_odb.specs.True.{AreTrue}
@@ -64,6 +65,12 @@ pub record IsToldWell (first : Volume) (events : List Event) (handle : ℕ) (sto
   pub given : (ask : DiskAsk) (answer : DiskAnswer) → WasTold (told_since events handle begun) (asks.Disk ask) (told.Disk answer)
       → IsGiven first events handle begun ask answer
   pub failures : FailedSince events handle begun → HasFailed (told_since events handle begun)
+  -- each call that didn't fail is fair; and each list that its looks at the core showed has what stayed unchanged in a pack since the store was opened
+  pub met : (id : ObjectId) (place : PackedPlace) → IsPackedStill (tree_at first events) store begun (length events) id place
+      → AreFairOrFailed (listed_for store.parts).multi store.parts.object_hash id place [] (told_since events handle begun)
+  pub listed : (id : ObjectId) (place : PackedPlace) → Contains (folder_list store.parts) place.folder
+      → IsPackedStill (tree_at first events) store store.opened (length events) id place
+      → AreListed (listed_for store.parts).multi store.parts.object_hash id place (told_since events handle begun)
   pub fair : (id : ObjectId) (place : PackedPlace) → ¬ (FailedSince events handle begun)
       → IsPackedStill (tree_at first events) store begun (length events) id place
       → AreFair (listed_for store.parts).multi store.parts.object_hash id place [] (told_since events handle begun)

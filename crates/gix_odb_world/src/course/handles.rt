@@ -5,7 +5,7 @@ ghost use Rattle.gix_odb.specs.CallOrder.{IsOfHash};
 ghost use Rattle.gix_odb.specs.HandleState.{hash_of};
 ghost use Rattle.gix_odb_world.specs.Valid as reasons;
 ghost use Rattle.gix_odb_world.specs.World.{handle_at, stored_at};
-ghost use Rattle.gix_odb_world.specs.Table.{PutsHandle, phase_of_handle, with_call, with_ignoring};
+ghost use Rattle.gix_odb_world.specs.Table.{PutsHandle, phase_of_handle, with_call, with_frozen, with_ignoring};
 
 use super::Course;
 use crate::handle::{BoxedHandle, Handle, HandleAt};
@@ -80,6 +80,14 @@ impl Course {
         match self.handles.get_mut(&number) {
             Some(handle) => handle.begin(call),
             None => drop(call),
+        }
+    }
+
+    pub(super) fn set_frozen(&mut self, number: u32)
+        ensures puts { PutsHandle self.old self.new number (with_frozen (stored_at self.old number)) }
+    {
+        if let Some(handle) = self.handles.get_mut(&number) {
+            handle.freeze();
         }
     }
 

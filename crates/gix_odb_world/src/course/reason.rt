@@ -39,6 +39,7 @@ impl Course {
             } => self.why_not_open(alloc, *handle, path, folders, *hash, replacements, *options),
             Step::Clone { handle, from } => Ok(self.why_not_clone(*handle, *from)),
             Step::Close { handle } => Ok(self.why_not_idle(*handle)),
+            Step::Never { handle } => Ok(self.why_not_idle(*handle)),
             Step::Ignore { handle } => Ok(self.why_not_idle(*handle)),
             Step::Start { handle, call } => Ok(self.why_not_start(*handle, call)),
             Step::Turn { handle } => self.why_not_turn(alloc, *handle),

@@ -18,7 +18,7 @@ use Rattle.gix_odb_events.specs.declared.answer.Ask.TheVariants as asks
 use Rattle.gix_odb_world.specs.Headline.{Law, Works, stand_of}
 use Rattle.gix_odb_world.specs.Machines.{fed_in}
 use Rattle.gix_odb_history.specs.Run.{IsTurnOf, disk_after, told_now}
-use Rattle.gix_odb_world.specs.Status.{Free, Resting, Status, Working, after_reply, cloned, come_to, ignoring_from, refuses_opening, replied, started, status_after, status_of, turned, with_status}
+use Rattle.gix_odb_world.specs.Status.{Free, Resting, Status, Working, after_reply, cloned, come_to, frozen_from, ignoring_from, refuses_opening, replied, started, status_after, status_of, turned, with_status}
 use Rattle.gix_odb_history.specs.Turned.{is_done}
 use Rattle.gix_odb_world.proofs.HistoryLemmas.{status_of-push}
 
@@ -67,6 +67,11 @@ module _ (past : List Event) (e : Event) where
   comes_cloned handle (Resting store modes) = tt
   comes_cloned handle (Working running) = tt
 
+  comes_frozen : (handle : ℕ) (status : Status) → table handle ≡ status → Comes handle (frozen_from status)
+  comes_frozen handle Free is = tt
+  comes_frozen handle (Resting store modes) is = tt
+  comes_frozen handle (Working running) is = comes_same handle (Working running) is
+
   comes_ignoring : (handle : ℕ) (status : Status) → table handle ≡ status → Comes handle (ignoring_from status)
   comes_ignoring handle Free is = tt
   comes_ignoring handle (Resting store modes) is = tt
@@ -96,6 +101,7 @@ module _ (past : List Event) (e : Event) where
   comes_by (steps.Open number path folders hash replacements options) outcomes.Applied s o handle = comes_set number _ (inl refl) handle
   comes_by (steps.Clone number from) outcomes.Applied s o handle = comes_set number _ (comes_cloned number (table from)) handle
   comes_by (steps.Close number) outcomes.Applied s o handle = comes_set number Free tt handle
+  comes_by (steps.Never number) outcomes.Applied s o handle = comes_set number _ (comes_frozen number (table number) refl) handle
   comes_by (steps.Ignore number) outcomes.Applied s o handle = comes_set number _ (comes_ignoring number (table number) refl) handle
   comes_by (steps.Start number call) outcomes.Applied s o handle = comes_set number _ (comes_started number call (table number) refl) handle
   comes_by (steps.Turn number) outcomes.Applied s o handle = comes_same handle (table handle) refl

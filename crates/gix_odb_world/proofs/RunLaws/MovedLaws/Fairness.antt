@@ -261,9 +261,9 @@ module _ (first : Volume) (events : List Event) (is : IsKnownRun first events) (
                 stock = stock_at (MakeCall (call_of knows.query)) knows.task;
                 handed =
                     what_is_handed_was_shown (ShownSince first past was.store) setting was.store.parts.object_hash knows.query.want id
-                    knows.fits.hashed view knows.well.snapshot (told_since past handle was.begun) knows.asked knows.well.truth (parts.Core event) asks_now;
+                    knows.fits.hashed was.modes.refresh view knows.well.snapshot (told_since past handle was.begun) knows.asked knows.well.truth (parts.Core event) asks_now;
                 can = λ shape.
-                    what_is_handed_can_happen setting knows.fits.distinct view knows.query.want id (told_since past handle was.begun) knows.asked event asks_now shape handle;
+                    what_is_handed_can_happen setting knows.fits.distinct was.modes.refresh view knows.query.want id (told_since past handle was.begun) knows.asked event asks_now shape handle;
               }
           by (Calling (Refreshing refresh call)) knows asked =
               let setting = setting_in was.store in

@@ -52,7 +52,7 @@ no_failure first whole handle store modes begun query promise =
     query promise)
   where
     by : (want : Want)
-        → Keeps (tree_at first whole) (FailedSince whole handle begun) (RefusedSince whole handle modes.core begun) (told_since whole handle begun) store begun (length whole) want (sought store.parts modes.ignoring query) (claim_of want (not_found want))
+        → Keeps (tree_at first whole) (FailedSince whole handle begun) (RefusedSince whole handle modes.core begun) (told_since whole handle begun) store modes.refresh begun (length whole) want (sought store.parts modes.ignoring query) (claim_of want (not_found want))
         → ¬ (FailedSince whole handle begun)
     by wants.Object misses = misses.no_failure
     by wants.Header misses = misses.no_failure

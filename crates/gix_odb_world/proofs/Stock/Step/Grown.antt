@@ -14,7 +14,7 @@ use Rattle.gix_odb_history.specs.Cores.{answer_behind, cores_after, cores_after_
 use Rattle.gix_odb_history.specs.Event.{Asked, CoreEvent, Event, OfCore, OfNewCore}
 use Rattle.gix_odb_world.proofs.HistoryLemmas.{cores_after-push, slice_get-kept, slice_get-last, slice_get-push}
 use Rattle.gix_odb_world.proofs.SeatLemmas.Elsewhere.{slice_get-set_other, slice_get-set_same}
-use Rattle.gix_odb_world.proofs.Stock.OneCore.{IsOfStore, IsStocked, ShownSince, of_store_grown, of_store_later}
+use Rattle.gix_odb_world.proofs.Stock.OneCore.{IsOfStore, IsStocked, ListsStill, ShownSince, of_store_grown, of_store_later}
 use Rattle.gix_odb_world.proofs.Stock.Owned.{AreStocked}
 use Rattle.gix_odb_world.proofs.ToldLists.{length-slice_set}
 
@@ -49,8 +49,9 @@ module _ (first : Volume) (past : List Event) (e : Event) (before : AreStocked f
   pub grown_core : (core handle : ℕ) (event : CoreEvent) → e.asked ≡ OfCore core handle event (answer_behind (history_at cores core) handle event)
       → CanHappen (present (history_at cores core)) handle event
       → ((store : Store) → slice_get before.stores core ≡ Some store → IsHanded (ShownSince first past store) (setting_in store) store.parts.object_hash event)
+      → ((store : Store) → slice_get before.stores core ≡ Some store → ListsStill first past store event)
       → GrowsTo before.stores
-  grown_core core handle event is can handed =
+  grown_core core handle event is can handed lists =
       let answer = answer_behind (history_at cores core) handle event in
       let new : History = entered (history_at cores core) handle event answer in
       let grown : cores_after now ≡ cores_after_asked cores (OfCore core handle event answer) = now_is _ is in
@@ -76,7 +77,7 @@ module _ (first : Volume) (past : List Event) (e : Event) (before : AreStocked f
                 ∙ ap (λ h. Some (entered h handle event answer)) there));
             of =
                 of_store_grown first past e store stock.history handle event answer (ap (λ h. answer_behind h handle event) there)
-                (subst (λ h. CanHappen (present h) handle event) there can) (handed store own) stock.of;
+                (subst (λ h. CanHappen (present h) handle event) there can) (handed store own) (lists store own) stock.of;
           }
       by place store has false is_other =
           let answer = answer_behind (history_at cores core) handle event in
@@ -105,6 +106,7 @@ module _ (first : Volume) (past : List Event) (e : Event) (before : AreStocked f
         legal = λ i entry there. absurd (cc there);
         possible = tt;
         handed = λ entry among. absurd (nothing_in entry among);
+        still = λ entry among. absurd (nothing_in entry among);
       } in
       record {
         long =
@@ -128,7 +130,7 @@ module _ (first : Volume) (past : List Event) (e : Event) (before : AreStocked f
                     there = ap (λ cs. slice_get cs place) grown ∙ (ap (slice_get (cores ++ new ∷ [])) here ∙ slice_get-last cores new);
                     of =
                         subst (λ (o : Store). IsOfStore first now o new) last.1
-                        (of_store_grown first past e store h handle (core_events.Register false) answer refl refl tt none);
+                        (of_store_grown first past e store h handle (core_events.Register false) answer refl refl tt tt none);
                   }
             ];
         keeps = λ place other has. slice_get-kept before.stores store place other has;

@@ -21,6 +21,12 @@ returns-in-Close c = record {
   reason = subst (λ (step : Step). IsReasonNow c.args.self.now step c.why_not_idle.result) (sym c.in-Close.is) (reason_is _ _ c.why_not_idle.ensures.why);
 }
 
+pub returns-in-Never : goal.returns-in-Never
+returns-in-Never c = record {
+  reason = subst (λ (step : Step). IsReasonNow c.args.self.now step c.why_not_idle-in-Never.result) (sym c.in-Never.is)
+      (reason_is _ _ c.why_not_idle-in-Never.ensures.why);
+}
+
 pub returns-in-Ignore : goal.returns-in-Ignore
 returns-in-Ignore c = record {
   reason = subst (λ (step : Step). IsReasonNow c.args.self.now step c.why_not_idle-in-Ignore.result) (sym c.in-Ignore.is)
